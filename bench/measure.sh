@@ -18,7 +18,7 @@ list=$top/bench/memory.list
 . "$top/bench/shared.sh"
 chart=${CHART:-$top/docs/benchmarks.svg}
 
-# Over files that lie in memory, which the program itself removes.
+# Over files in memory, which the program itself removes.
 start() {
     name=$1 interval=$(interval_of "$2") input=$3
     case $name-$interval in
@@ -30,7 +30,7 @@ start() {
 }
 
 need g++ awk
-[ -d /dev/shm ] || die 'it needs /dev/shm, where all files lie in memory'
+[ -d /dev/shm ] || die 'it needs /dev/shm, where all files are in memory'
 work_in /dev/shm
 build_peers
 build_program

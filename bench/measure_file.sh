@@ -42,7 +42,7 @@ file_system() {
 check_folder() {
     [ -d "$folder" ] || die "there is no folder $folder, which FOLDER names"
     case $(file_system) in
-    tmpfs\ * | ramfs\ * | *\ /dev/ram* | *\ /dev/zram*) die "$folder lies in memory ($(file_system)); FOLDER has to be on a disk" ;;
+    tmpfs\ * | ramfs\ * | *\ /dev/ram* | *\ /dev/zram*) die "$folder is in memory ($(file_system)); FOLDER has to be on a disk" ;;
     esac
 }
 

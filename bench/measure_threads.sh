@@ -28,7 +28,7 @@ calls_of() {
     esac
 }
 
-# Over files that lie in memory, which the program itself removes.
+# Over files in memory, which the program itself removes.
 start() {
     name=$1 threads=$(threads_of "$2") each_calls=$(calls_of "$2") input=$3
     kind=${2#no_}
@@ -59,7 +59,7 @@ measure_calls() {
 }
 
 need g++ awk
-[ -d /dev/shm ] || die 'it needs /dev/shm, where all files lie in memory'
+[ -d /dev/shm ] || die 'it needs /dev/shm, where all files are in memory'
 work_in /dev/shm
 : >"$work/input"
 build_peers threads

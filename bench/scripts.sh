@@ -9,7 +9,7 @@ setup_of() {
     awk -v name="$1" '$1 == name { found = $2 } END { print found ? found : "nothing" }' "$list"
 }
 
-# whole_script NAME: the lines of a script or of a setup behind those of its own setup
+# whole_script NAME: the lines of a script or of a setup after those of its own setup
 whole_script() {
     [ "$1" = nothing ] || whole_script "$(setup_of "$1")"
     script_lines "$1"
@@ -74,7 +74,7 @@ repeated() {
     awk -v n="$1" -v line="$2" 'BEGIN { for (i = 0; i < n; i++) print line }'
 }
 
-# absent LINES: gets of ids behind those of 1,000 pages
+# absent LINES: gets of ids after those of 1,000 pages
 absent() {
     awk -v lines="$1" 'BEGIN {
         seed = 1

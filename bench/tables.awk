@@ -14,7 +14,7 @@ function head(first, from,    i, line, rule) {
     print rule first
 }
 
-# The time of a line, in microseconds; behind `~` where it is rough.
+# The time of a line, in microseconds; after `~` where it is rough.
 function time_cell(figures, script, whose) {
     if (is_nothing(figures, script, whose)) return "-"
     return (is_rough(figures, script, whose) ? "~" : "") short(own(figures, script, whose) / lines_of[script])

@@ -7,7 +7,7 @@ BEGIN {
     for (i in names) title_of[names[i]] = titles[i]
 }
 
-# How many thousand calls a second; behind `~` where it is rough.
+# How many thousand calls a second; after `~` where it is rough.
 function rate_cell(script, whose,    rate) {
     if (is_nothing(wall, script, whose)) return "-"
     rate = lines_of[script] / own(wall, script, whose) * 1000

@@ -7,7 +7,7 @@ top=$(CDPATH='' cd -- "$(dirname -- "$(readlink -f -- "$0")")/.." && pwd)
 interval=$1 file=$2
 . "$top/bench/copied.sh"
 
-# put_interval FILE FRONT: the number behind the front is the interval
+# put_interval FILE FRONT: the number after the front is the interval
 put_interval() {
     grep -q "$2"'10\>' "$1" || {
         echo "with_interval.sh: $1 has no interval of 10" >&2

@@ -12,7 +12,7 @@ trap 'exit 1' HUP INT PIPE TERM
 [ ! -e pages ] || { echo 'readme.sh: there is a file pages, which the programs of the README make'; exit 1; }
 status=0
 
-# NUMBER.command for each command, and NUMBER.replies for what stands below it
+# NUMBER.command for each command, and NUMBER.replies for what is below it
 awk -v work="$work" '
     /^## / { inside = $0 == "## From Rust, C and Python" }
     !inside { next }

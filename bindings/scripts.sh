@@ -26,7 +26,7 @@ out=$here/out
 seed=${1:-1}
 count=${2:-20}
 
-# The files lie in memory where they may: nothing is to outlive the machine here, and syncs would take most of the time.
+# The files are in memory where they may: nothing is to outlive the machine here, and syncs would take most of the time.
 if [ -z "${TMPDIR-}" ] && [ -w /dev/shm ]; then
     export TMPDIR=/dev/shm
 fi

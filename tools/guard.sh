@@ -23,7 +23,7 @@ done
 echo "refused: $library" >>"$work/crates.txt"
 program=$work/crates/refused/src/main.rt
 
-# try: the program on standard input, behind what each begins with. A line that is to be refused ends in `// error: NAME`.
+# try: the program on standard input, after what each begins with. A line that is to be refused ends in `// error: NAME`.
 try() {
     {
         printf '#![tactic(auto)]\n\nuse sled_pagecache::{Error, Log, PageCache};\n\nfn main() {}\n\n'

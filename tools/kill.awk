@@ -233,8 +233,8 @@ function judge(    i, durable, want, state, split_at, lost_at) {
         else if (splits[i]) split_at = i
         else state = state_now()
     }
-    if (state == "" && split_at >= 0) fail("a part of a batch stands, up to line " split_at ": " command[split_at])
-    if (state == "" && lost_at >= 0) fail("what line " durable " made durable is lost, behind line " lost_at)
+    if (state == "" && split_at >= 0) fail("a part of a batch is there, up to line " split_at ": " command[split_at])
+    if (state == "" && lost_at >= 0) fail("what line " durable " made durable is lost, after line " lost_at)
     if (state == "") fail("the file holds no prefix of the script: " found_text())
     print "id " last_id
     print state

@@ -2,7 +2,7 @@
 # Compares README.md, docs/SCRIPT.md and docs/API.md with the code, word for word, and prints what differs:
 #
 # - each block of Rattle of README stands at the head of a file of a folder readme, of crates/sledpc/src/tests or
-#   crates/sled_shared_tests/src, which is named as its function is and has a test behind it, and each of these files has its block;
+#   crates/sled_shared_tests/src, which is named as its function is and has a test after it, and each of these files has its block;
 # - each block of Rust of README that uses the crate dilluvas, of C and of Python is a program of bindings, which bindings/check.sh runs;
 # - each session of the program `./sledpc` in README and docs/SCRIPT.md is one that the gate makes. Over a log in memory it stands in the
 #   gate's run of the program (its words in crates/sledpc/args, its input in crates/sledpc/stdin, and its replies at the same lines of
@@ -92,7 +92,7 @@ compare_bindings() {
     compare_program "$(echo "$cut"/*.python)" bindings/python/readme.py
 }
 
-# Puts the rows of a file of tests on one line, as ("..",".."),("..",".."), without what stands between them.
+# Puts the rows of a file of tests on one line, as ("..",".."),("..",".."), without what is between them.
 rows_of() {
     awk '
         { sub(/^ */, "") }
@@ -130,7 +130,7 @@ compare_run() {
         }
     ' "$work/input" "$run/stdin")
     if [ -z "$first" ]; then
-        differ "no row of $tests/scripts.rt is this, and its lines don't stand in $run/stdin:"
+        differ "no row of $tests/scripts.rt is this, and its lines are not in $run/stdin:"
         row_of "$1" "$work/replies"
         echo
         return

@@ -1,7 +1,7 @@
 // The folder of a program's files. The environment says where it is and what becomes of it:
 //
 //     KEEP      the folder itself. It is made where it isn't there, and stays, so a later run opens the files that are in it
-//     TMPDIR    without KEEP: where a new folder is made (/dev/shm, where files lie in memory). It is removed at the end of its life
+//     TMPDIR    without KEEP: where a new folder is made (/dev/shm, where files are in memory). It is removed at the end of its life
 //     SYNC      1: a flush is durable when it is answered. Without it no store waits for a disk
 //
 // At the end of its life the folder says on standard error how many kilobytes its files had, since a process's own peak memory counts
@@ -48,7 +48,7 @@ class Folder {
     const std::string &path() const { return name; }
 
   private:
-    // Of a file whose end lies beyond what was written only that counts, and of one with reserved room only up to its end.
+    // Of a file whose end is beyond what was written only that counts, and of one with reserved room only up to its end.
     long long bytes() const {
         long long sum = 0;
         std::error_code ignored;

@@ -1,4 +1,4 @@
-// Pages in a plain map: a page is a stamp and a std::map of its pairs, and pages lie in a std::vector by their ids. A std::map has the
+// Pages in a plain map: a page is a stamp and a std::map of its pairs, and pages are in a std::vector by their ids. A std::map has the
 // roots. It keeps no log, so a flush does nothing.
 #pragma once
 

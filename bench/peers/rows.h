@@ -1,5 +1,5 @@
 // Pages as rows of an ordered table of byte strings. A page's id is eight bytes, big-endian, so the rows of a page stand together,
-// in the order of its keys, behind the row of its stamp:
+// in the order of its keys, after the row of its stamp:
 //
 //     id 0         stamp, in eight bytes
 //     id 1 KEY     value
