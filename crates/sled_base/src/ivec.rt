@@ -104,6 +104,16 @@ impl IVec {
         IVec::from_slice(alloc, &bytes)
     }
 
+    /// The first `len` bytes of an array, kept in place: `len` is at most [`CUTOFF`]. It allocates nothing.
+    pub fn from_front(bytes: [u8; CUTOFF], len: usize) -> IVec
+        requires { len ≤ inline_limit }
+        ensures { result ≡ take len bytes }
+    {
+        IVec {
+            kept: Kept::Inline(Short::front(bytes, len)),
+        }
+    }
+
     /// `len` bytes from `offset` on, which have to lie within these: `offset + len` is at most [`len`](IVec::len).
     ///
     /// It allocates nothing: up to [`CUTOFF`] bytes are copied in place and never refused, and more are shared with these. An
@@ -243,7 +253,11 @@ impl Clone for IVec {
     ///
     /// An error means that there are more holders than can be counted.
     fn clone(&self) -> Result<IVec, AllocError> {
-        self.subslice(0, self.len())
+        let kept = match &self.kept {
+            Kept::Inline(short) => Kept::Inline(*short),
+            Kept::Shared(part) => Kept::Shared(part.part(0, self.len())?),
+        };
+        Ok(IVec { kept })
     }
 }
 

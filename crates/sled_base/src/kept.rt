@@ -17,7 +17,7 @@ pub(crate) enum Kept {
 }
 
 /// Up to [`CUTOFF`] bytes: the first `len` of an array.
-#[derive(Drop)]
+#[derive(Clone, Copy)]
 pub(crate) struct Short {
     len: u8,
     bytes: [u8; CUTOFF],
@@ -44,8 +44,16 @@ impl Short {
     {
         let mut bytes = [0u8; CUTOFF];
         bytes[..from.len()].copy_from_slice(from);
+        Short::front(bytes, from.len())
+    }
+
+    /// The first bytes of an array.
+    pub(crate) fn front(bytes: [u8; CUTOFF], len: usize) -> Short
+        requires { len ≤ inline_limit }
+        ensures { short_bytes result ≡ take len bytes }
+    {
         Short {
-            len: from.len() as u8,
+            len: len as u8,
             bytes,
         }
     }
