@@ -3,7 +3,7 @@
 //! The pages are spread over 256 shards by their ids. Each shard has an equal part of the capacity, and lists its pages from
 //! the most recently used on.
 
-ghost use Rattle.std.specs.Prelude.{◌≡◌, ◌<◌, ◌≤◌, ◌+◌, ◌*◌, ◌^◌, map, All, IfOk, IfErr, IsOk, OnErr, Ok, Err};
+ghost use Rattle.std.specs.Prelude.{◌≡◌, ◌<◌, ◌≤◌, ◌+◌, ◌*◌, ◌^◌, map, All, IfOk, IfErr, IsOk, OnOk, OnErr, Ok, Err};
 ghost use Rattle.sled_base.specs.Limits.{shard_count};
 ghost use Rattle.sled_base.specs.Lru.{rounded, IsAccessed, IsListed, IsSound, IsUnused};
 
@@ -72,11 +72,32 @@ impl Lru {
         ensures always { IsListed id (rounded size) self.old → IsOk result }
         ensures sound { IsSound self.new }
     {
+        let mut gone = Vec::new(*self.shards.allocator());
+        self.access(id, size, &mut gone)?;
+        Ok(gone)
+    }
+
+    /// The same, and the pages that leave are put into a list, in place of what it held, whose memory is used again. An error leaves what
+    /// the list held.
+    pub fn access(
+        &mut self,
+        id: PageId,
+        size: u64,
+        gone: &mut Vec<PageId>,
+    ) -> Result<(), AllocError>
+        requires { size ≤ 2 ^ 63 }
+        ensures accessed { OnOk result
+            (IsAccessed id (rounded size) self.old self.new gone.new.items) }
+        ensures err { OnErr result (self.new ≡ self.old) }
+        ensures kept { OnErr result (gone.new.items ≡ gone.old.items) }
+        ensures always { IsListed id (rounded size) self.old → IsOk result }
+        ensures sound { IsSound self.new }
+    {
         let number = id % SHARDS;
         let shard = &mut self.shards[number as usize];
-        let mut gone = shard.accessed(id / SHARDS, rounded_up(size))?;
-        number_pages(&mut gone, number);
-        Ok(gone)
+        shard.accessed(id / SHARDS, rounded_up(size), gone)?;
+        number_pages(gone, number);
+        Ok(())
     }
 }
 

@@ -53,32 +53,30 @@ impl Shard {
         }
     }
 
-    /// Puts the place first with that size, and answers the places that leave for it, from the last on.
+    /// Puts the place first with that size, and the places that leave for it, from the last on, into `gone` in place of what it held.
     ///
-    /// It allocates before it changes anything, so an error leaves the shard unchanged. It allocates nothing where the place is
+    /// It allocates before it changes anything, so an error leaves both unchanged. It allocates nothing where the place is
     /// listed with that size.
-    pub fn accessed(&mut self, place: u64, size: u64) -> Result<Vec<u64>, AllocError>
+    pub fn accessed(&mut self, place: u64, size: u64, gone: &mut Vec<u64>) -> Result<(), AllocError>
         requires near { place < 2 ^ 56 }
         requires room { total self.old.listings + size < 2 ^ 128 }
-        ensures used { IfOk result (λ gone. IsUsed self.old.capacity place size
-            self.old.listings self.new.listings gone.items) }
+        ensures used { OnOk result (IsUsed self.old.capacity place size
+            self.old.listings self.new.listings gone.new.items) }
         ensures capacity { self.new.capacity ≡ self.old.capacity }
-        ensures near { IfOk result (λ gone. All (λ place. place < 2 ^ 56) gone.items) }
+        ensures near { OnOk result (All (λ place. place < 2 ^ 56) gone.new.items) }
         ensures err { OnErr result (self.new ≡ self.old) }
+        ensures kept { OnErr result (gone.new.items ≡ gone.old.items) }
         ensures always { Contains self.old.listings (listing place size)
             → IsWithin self.old.capacity self.old.listings → IsOk result }
     {
         let count = self.leaving(place, size);
-        let mut gone = Vec::with_capacity(self.allocator(), count)?;
+        gone.reserve_exact(count)?;
         self.put_first(place, size)?;
+        gone.clear();
         for _ in 0..count {
             gone.push_reserved(self.drop_last());
         }
-        Ok(gone)
-    }
-
-    fn allocator(&self) -> Global {
-        *self.entries.allocator()
+        Ok(())
     }
 
     // How many places leave for one of that size: those of the walk from the last on, which passes over the place itself.

@@ -6,20 +6,21 @@ use Rattle.sled_base.specs.Shards.{Shelf, IsCut}
 use Rattle.sled_base.proofs.RecentUse.Dropping.{none_left, one_more, some_stay, all_left, none_leave}
 use Rattle.sled_base.proofs.lru.shard.Shard.accessed.Goals as goal
 
-pub returns-in_err-gone-clause-always : goal.returns-in_err-gone-clause-always
-returns-in_err-gone-clause-always c = λ there within.
-    absurd (false≢true (c.in_err-gone.ensures.succeeds (none_leave c.args.self.now.capacity c.args.place c.args.size c.leaving-count.result c.args.self.now.listings c.leaving-count.ensures there within)))
+pub returns-in_err-reserve_exact-clause-always : goal.returns-in_err-reserve_exact-clause-always
+returns-in_err-reserve_exact-clause-always c = λ there within.
+    let none = none_leave c.args.self.now.capacity c.args.place c.args.size c.leaving-count.result c.args.self.now.listings c.leaving-count.ensures there within in
+    absurd (omega (arith, c.in_err-reserve_exact.ensures.full, none))
 
 pub returns-in_err-put_first-clause-always : goal.returns-in_err-put_first-clause-always
 returns-in_err-put_first-clause-always c = λ there within. absurd (false≢true (c.in_err-put_first.ensures.always c.args.size there))
 
 pub loop-init : goal.loop-init
 loop-init c = record {
-  left = none_left c.put_first.new.self.listings c.in_ok-gone.gone.items c.in_ok-gone.ensures.items;
+  left = none_left c.put_first.new.self.listings c.clear.new.self.items c.clear.ensures.items;
   same = refl;
-  filled = c.in_ok-gone.ensures.len;
-  room = c.in_ok-gone.ensures.exact;
-  near = subst (All (λ place. place < 2 ^ 56)) (sym c.in_ok-gone.ensures.items) (All-nil (λ place. place < 2 ^ 56));
+  filled = c.clear.ensures.len;
+  room = omega (arith, c.in_ok-reserve_exact.ensures.ok, c.clear.ensures.capacity);
+  near = subst (All (λ place. place < 2 ^ 56)) (sym c.clear.ensures.items) (All-nil (λ place. place < 2 ^ 56));
 }
 
 pub drop_last-requires : goal.drop_last-requires
@@ -41,7 +42,7 @@ loop-preserved c =
       left = one_more c.put_first.new.self.listings c.loop.self.listings c.drop_last.new.self.listings c.loop.gone.items c.push_reserved.new.self.items c.loop.counter c.drop_last.result dropped.size now.left dropped.is pushed.items;
       same = dropped.capacity ∙ now.same;
       filled = pushed.len ∙ ap (λ n. n + 1) now.filled;
-      room = pushed.capacity ∙ now.room;
+      room = omega (arith, pushed.capacity, now.room);
       near = subst (All (λ place. place < 2 ^ 56)) (sym pushed.items) (All-push (λ place. place < 2 ^ 56) c.loop.gone.items c.drop_last.result now.near dropped.near);
     }
 
