@@ -3,6 +3,7 @@ use Rattle.std.proofs.Common.{ℕ, ◌*◌, ◌<◌, ◌≤◌, ◌^◌, List, [
 use Rattle.std.specs.Prelude.{nat_le, nat_lt}
 use Rattle.std.specs.List.{flat_map, AllByRecursion}
 use Rattle.std.proofs.Math.Nat.{suc-mul}
+use Rattle.std.proofs.lemmas.Bool.Decides.{nat_tests}
 use Rattle.std.proofs.lemmas.List.{length-append, length-map}
 use Rattle.sled_base.specs.Order.{Bytes}
 use Rattle.sled_node.specs.declared.node.data.Data.{Data}
@@ -15,6 +16,7 @@ use Rattle.sled_base.specs.Payloads.ByteStrings.{written_bytes}
 use Rattle.sled_node.specs.Payloads.Pairs.{keys_of, items_of, written_pairs}
 use Rattle.sled_node.specs.Payloads.PairLaws.{all_keys, all_items}
 use Rattle.sled_node.specs.Payloads.Data.{written_data}
+use Rattle.sled_node.specs.Payloads.Roots.{written_root}
 
 few_bytes : (n : ℕ) → byte_count n ≤ 8
 few_bytes n =
@@ -31,6 +33,16 @@ number_size n =
     chosen P (nat_le n 240) _ _ (λ _. omega arith) (λ _.
     chosen P (nat_le n 2287) _ _ (λ _. omega arith) (λ _.
     chosen P (nat_le n 67823) _ _ (λ _. omega arith) (λ _. omega (arith, length-low_bytes (byte_count n) n, few_bytes n))))
+
+pub small_number_size : (n : ℕ) → n ≤ 240 → length (written_u64 n) ≤ 1
+small_number_size n small =
+    let P = λ (s : List ℕ). length s ≤ 1 in
+    chosen P (nat_le n 240) _ _ (λ _. omega arith) (λ large. absurd (grind (arith, nat_tests)))
+
+-- a short name and its page
+pub short_root_size : (name : Bytes) (root : ℕ) → length name ≤ 22 → length (written_root (name, root)) ≤ 32
+short_root_size name root short =
+    omega (arith, short, small_number_size (length name) (omega arith), number_size root, length-append (written_u64 (length name)) name, length-append (written_bytes name) (written_u64 root))
 
 pub string_size : (bytes : Bytes) → IsWithinLimit bytes → length (written_bytes bytes) ≤ 2147483656
 string_size bytes short = omega (arith, short, number_size (length bytes), length-append (written_u64 (length bytes)) bytes)

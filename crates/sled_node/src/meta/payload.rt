@@ -114,7 +114,7 @@ fn write_root(name: &[u8], root: PageId, out: &mut [u8], start: usize) -> usize
 }
 
 // Writes a name and its page at the front.
-fn write_pair(name: &[u8], root: PageId, out: &mut [u8]) -> usize
+pub(super) fn write_pair(name: &[u8], root: PageId, out: &mut [u8]) -> usize
     requires room { length (written_root (name.now, root)) ≤ length out.old }
     ensures size { result ≡ length (written_root (name.now, root)) }
     ensures bytes { out.new ≡ written_root (name.now, root)
