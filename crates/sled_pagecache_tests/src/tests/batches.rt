@@ -12,7 +12,7 @@ use super::steps::Step::{AddsFrom, Flushes, Gets};
 use super::steps::{Outcome, shows};
 use super::*;
 
-// How a batch ends: by its guard, or by a call of the cache where no guard is held.
+// How a batch ends: by its guard, by a call of the cache where no guard is held, or by a rule of the caller's own.
 #[derive(Clone, Copy, Debug, PartialEq, Eq)]
 enum End {
     Sealed,
@@ -20,6 +20,21 @@ enum End {
     Cancelled,
     SealedByCall,
     CancelledByCall,
+    SealedByRule,
+    CancelledByRule,
+}
+
+// Why changes failed that keep a rule of the caller's own.
+#[derive(Debug, Drop, PartialEq, Eq)]
+enum Failure {
+    Rule(u8),
+    Cache(Error),
+}
+
+impl From<Error> for Failure {
+    fn from(error: Error) -> Failure {
+        Failure::Cache(error)
+    }
 }
 
 // Whether pages 2, 3 and 4 are replaced, each at stamp 1.
@@ -54,10 +69,24 @@ fn batch_by_calls(alloc: Global, cache: &mut Faulty, end: End) -> bool {
     closed.is_ok() && done
 }
 
+// Makes a batch of three replacements, which the rule allows or not, and answers as it is settled.
+fn settles_by_rule(alloc: Global, cache: &mut Faulty, is_allowed: bool) -> Result<u8, Failure> {
+    let mut guard = cache.pin_log()?;
+    let done = if replaces_three(alloc, guard.cache()) && is_allowed {
+        Ok(7)
+    } else {
+        Err(Failure::Rule(3))
+    };
+    guard.settle(done)
+}
+
 // Whether a batch of three replacements is made, which ends so.
 fn batch(alloc: Global, cache: &mut Faulty, end: End) -> bool {
     if end == End::SealedByCall || end == End::CancelledByCall {
         return batch_by_calls(alloc, cache, end);
+    }
+    if end == End::SealedByRule || end == End::CancelledByRule {
+        return settles_by_rule(alloc, cache, end == End::SealedByRule).is_ok();
     }
     let Ok(mut guard) = cache.pin_log() else {
         return false;
@@ -135,8 +164,8 @@ fn among(events: usize) -> usize {
 // The same as the list of the events has it: the pin, three replacements, and the mark that closes the batch.
 fn wanted(end: End, events: usize, kept: usize) -> Option<usize> {
     let may_stand = match end {
-        End::Cancelled | End::CancelledByCall => kept <= 5,
-        End::Sealed | End::SealedByCall => kept == 0 || kept == 5,
+        End::Cancelled | End::CancelledByCall | End::CancelledByRule => kept <= 5,
+        End::Sealed | End::SealedByCall | End::SealedByRule => kept == 0 || kept == 5,
         End::Flushed => kept == 0,
     };
     match (events, end) {
@@ -160,6 +189,8 @@ fn a_crash_leaves_a_batch_whole_or_not_at_all(rt: HostRuntime) {
         End::Cancelled,
         End::SealedByCall,
         End::CancelledByCall,
+        End::SealedByRule,
+        End::CancelledByRule,
     ] {
         for events in 0..6 {
             for kept in 0..7 {
@@ -169,6 +200,64 @@ fn a_crash_leaves_a_batch_whole_or_not_at_all(rt: HostRuntime) {
                 );
             }
         }
+    }
+}
+
+// What settling answers: the value of the changes, the rule's own error, or the cache's.
+#[derive(Clone, Copy, Debug, PartialEq, Eq)]
+enum Told {
+    Value,
+    Rule,
+    Fault,
+    Other,
+}
+
+fn told_of(failure: &Failure) -> Told {
+    match failure {
+        Failure::Rule(3) => Told::Rule,
+        Failure::Rule(_) => Told::Other,
+        Failure::Cache(error) if *error == Error::Io(Device::Write) => Told::Fault,
+        Failure::Cache(_) => Told::Other,
+    }
+}
+
+fn told_by(answer: &Result<u8, Failure>) -> Told {
+    match answer {
+        Ok(7) => Told::Value,
+        Ok(_) => Told::Other,
+        Err(failure) => told_of(failure),
+    }
+}
+
+// What it answers where the rule allows the changes or not, and the write behind so many of the batch's five events fails.
+const SETTLED: &[(bool, u64, Told)] = &[
+    (true, 5, Told::Value),
+    (false, 5, Told::Rule),
+    (false, 4, Told::Rule),
+    (true, 4, Told::Fault),
+    (true, 0, Told::Fault),
+];
+
+// Whether it answers so, and leaves no batch open.
+fn is_settled(alloc: Global, is_allowed: bool, events: u64, wanted: Told) -> bool {
+    // three writes open the cache, and four are the pages and their flush
+    let trouble = Write(events.saturating_add(8));
+    let Ok(mut cache) = opened_with(alloc, MemLog::new(alloc, 512, 16), 10, &trouble) else {
+        return false;
+    };
+    shows(alloc, &mut cache, &AddsFrom(2, 5))
+        && shows(alloc, &mut cache, &Flushes)
+        && told_by(&settles_by_rule(alloc, &mut cache, is_allowed)) == wanted
+        && !cache.batch_open()
+}
+
+#[test]
+fn a_batch_is_settled_with_an_error_of_the_callers_own(rt: HostRuntime) {
+    for (is_allowed, events, wanted) in SETTLED {
+        assert!(rt;
+            is_settled(rt.alloc(), *is_allowed, *events, *wanted),
+            "{is_allowed} {events}"
+        );
     }
 }
 

@@ -71,22 +71,24 @@ impl<'a, L: Log> RecoveryGuard<'a, L> {
     }
 
     /// Seals the batch where its changes succeeded, and else cancels it, and answers as they did. Where sealing fails that is the
-    /// answer; what cancelling answers is passed over.
+    /// answer, by `From`; what cancelling answers is passed over.
     ///
-    /// The changes are a function of the cache, in which `?` is free: `let done = change(guard.cache()); guard.settle(done)`.
-    pub fn settle<T: Drop>(self, outcome: Result<T, Error>) -> Result<T, Error>
+    /// The changes are a function of the cache, in which `?` is free: `let done = change(guard.cache()); guard.settle(done)`. Its error is
+    /// the cache's, or one of the caller's own that is made of it, so that a failure of the caller's own cancels the batch too.
+    pub fn settle<T: Drop, E: From<Error>>(self, outcome: Result<T, E>) -> Result<T, E>
         requires { (cache_lent self).now.batch ≡ true }
         ensures sealed { IfOk outcome (λ x. IfOk result (λ y. (y ≡ x)
             × SealsBatch L.Log (cache_lent self.entry).now (Ok tt) self.exit.0.now)) }
-        ensures stuck { OnOk outcome (IfErr result (λ e. (let failed : Result (Unit {0}) Error = Err
-            e in SealsBatch L.Log (cache_lent self.entry).now failed self.exit.0.now))) }
+        ensures stuck { OnOk outcome (IfErr result (λ answer. (e : Error) × E.from_gives e answer
+            × (let failed : Result (Unit {0}) Error = Err e in SealsBatch L.Log (cache_lent
+            self.entry).now failed self.exit.0.now))) }
         ensures cancelled { OnErr outcome ((result ≡ outcome) × ((r : Result (Unit {0}) Error)
             × CancelsBatch L.Log (cache_lent self.entry).now r self.exit.0.now)) }
     {
         match outcome {
             Ok(x) => match self.seal_batch() {
                 Ok(()) => Ok(x),
-                Err(e) => Err(e),
+                Err(e) => Err(E::from(e)),
             },
             Err(e) => {
                 let _ = self.cancel();
