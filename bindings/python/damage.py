@@ -1,61 +1,12 @@
 """Damages a file: it opens or is refused, nothing hangs, and each page is what its records make, or is told as damaged."""
 
-import struct
-
 import judge
 from dilluvas import OK, Refused
 from judge import answer_of, check
-from journal import FREED, OPENING, SEALED_BATCH, records_of
-from machine import BATCH, CORRUPTION, Node
+from journal import records_of
+from logs import is_log
+from machine import CORRUPTION, Node
 from payloads import Unreadable, chains_of, is_fit, roots_in, shown_of
-
-_CANCELLED, _PUTS, _LINKS = (1,), (5, 6, 7, 8, 9), (10, 11)
-
-
-def is_log(content):
-    """Whether the bytes of a file describe records, by docs/FORMAT.md."""
-    at, end, pages = len(OPENING), len(content), []
-    if not content.startswith(OPENING):
-        return False
-    while at < end and content[at]:
-        if end - at < 9:
-            return False
-        behind = at + 9 + struct.unpack_from("<Q", content, at + 1)[0]
-        if not at + 9 < behind <= end or not _are_records(content, at + 9, behind, pages):
-            return False
-        at = behind
-    return at < end
-
-
-def _are_records(content, at, end, pages):
-    wanted = set()
-    while at < end:
-        wanted.discard(at)
-        if end - at < 17:
-            return False
-        kind, page, length = struct.unpack_from("<BQQ", content, at)
-        if length > end - at - 17 or (wanted and min(wanted) < at):
-            return False
-        if kind == SEALED_BATCH:
-            place = struct.unpack_from("<Q", content, at + 17)[0] if length == 8 else 0
-            if page != BATCH or place < at:
-                return False
-            wanted |= {place} - {at}
-        elif not _fits(kind, page, pages):
-            return False
-        at += 17 + length
-    return not wanted
-
-
-def _fits(kind, page, pages):
-    """Whether a record may stand there. `pages` tells which have a content."""
-    if kind in _PUTS and page <= len(pages):
-        pages[page : page + 1] = [True]
-        return True
-    if kind == FREED and page < len(pages):
-        pages[page] = False
-        return True
-    return kind in _CANCELLED or kind in _LINKS and page < len(pages) and pages[page]
 
 
 class Script(judge.Script):

@@ -6,10 +6,11 @@
         assert cache.get(page).pairs == [(b"key", b"other")]
 
 dilluvas_file has one over a file. A cache is used by one thread at a time. The library is libdilluvas.so of the folder that
-bindings/build.sh fills, or the file that the variable DILLUVAS_SO names.
+bindings/build.sh fills, or the file that the variable DILLUVAS_SO names; it is loaded as the first call is made.
 """
 
 import ctypes
+import functools
 import operator
 import os
 import struct
@@ -85,6 +86,7 @@ _CALLS = {
 }
 
 
+@functools.cache
 def _load():
     beside = os.path.join(os.path.dirname(os.path.abspath(__file__)), "..", "out", "libdilluvas.so")
     library = ctypes.CDLL(os.environ.get("DILLUVAS_SO", beside))
@@ -94,7 +96,16 @@ def _load():
     return library
 
 
-_LIBRARY = _load()
+class _Library:
+    """The functions of the library."""
+
+    def __getattr__(self, name):
+        function = getattr(_load(), name)
+        setattr(self, name, function)
+        return function
+
+
+_LIBRARY = _Library()
 
 
 def _call(name, *arguments):
@@ -112,8 +123,11 @@ class Refused(Exception):
     """A call was refused, and has changed nothing: `status` is the number that dilluvas.h has for why."""
 
     def __init__(self, status):
-        super().__init__(text_of(status))
+        super().__init__(status)
         self.status = status
+
+    def __str__(self):
+        return text_of(self.status)
 
 
 class Stale(Refused):

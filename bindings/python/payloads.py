@@ -122,8 +122,8 @@ def chains_of(content):
     return chains
 
 
-def shown_of(chain) -> Optional[Node]:
-    """What a page shows that these messages make, and none where it is free. Unreadable: it is damaged."""
+def made_of(chain) -> Optional[Whole]:
+    """The node that these messages make, and none where the page is free. Unreadable: it is damaged."""
     kind, payload = chain[0]
     if kind == FREED:
         return None
@@ -132,7 +132,13 @@ def shown_of(chain) -> Optional[Node]:
     node = node_in(payload)
     for _, payload in chain[1:]:
         node = linked(node, payload)
-    return Node(node.is_index, node.pairs)
+    return node
+
+
+def shown_of(chain) -> Optional[Node]:
+    """What a page shows that these messages make, and none where it is free. Unreadable: it is damaged."""
+    node = made_of(chain)
+    return node and Node(node.is_index, node.pairs)
 
 
 def roots_in(data):
@@ -143,10 +149,11 @@ def roots_in(data):
     return roots
 
 
-def _counter_in(data):
+def counter_in(data):
     reader = Reader(data)
-    reader.number()
+    number = reader.number()
     reader.end()
+    return number
 
 
 def is_fit(page, chain):
@@ -154,7 +161,7 @@ def is_fit(page, chain):
     if page not in (ROOTS, COUNTER):
         return len(chain) <= MOST_MESSAGES
     kind, payload = chain[0]
-    kinds, read = (_ROOTS, roots_in) if page == ROOTS else ((OF_COUNTER,), _counter_in)
+    kinds, read = (_ROOTS, roots_in) if page == ROOTS else ((OF_COUNTER,), counter_in)
     if kind not in kinds or len(chain) > 1:
         return False
     try:

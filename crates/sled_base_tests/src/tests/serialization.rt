@@ -1,4 +1,5 @@
-ghost use Rattle.std.specs.Prelude.{◌<◌, ◌^◌, length};
+ghost use Rattle.std.specs.Prelude.{◌<◌, ◌≡◌, ◌^◌, length, true};
+ghost use Rattle.sled_base.specs.Payloads.Reading.{ReadsNoValue};
 
 mod rows;
 
@@ -11,8 +12,10 @@ use std::test::Fail;
 
 // ---- steps for any type
 
-// Whether no value is read, and the input stays where it was. It takes no memory.
-fn is_refused<T: Serialize>(alloc: Global, bytes: &[u8]) -> bool {
+// Whether no value is read, and the input stays where it was. Then the grammar has none for it. It takes no memory.
+fn is_refused<T: Serialize>(alloc: Global, bytes: &[u8]) -> bool
+    ensures { result ≡ true → ReadsNoValue T.reads bytes.now }
+{
     let mut rest = bytes;
     let answer = T::deserialize(alloc, &mut rest);
     matches!(&answer, Err(Error::Corruption(None))) && rest == bytes

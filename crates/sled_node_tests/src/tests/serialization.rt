@@ -1,4 +1,5 @@
-ghost use Rattle.std.specs.Prelude.{◌<◌, ◌^◌, length};
+ghost use Rattle.std.specs.Prelude.{◌<◌, ◌≡◌, ◌^◌, length, true};
+ghost use Rattle.sled_base.specs.Payloads.Reading.{ReadsNoValue};
 ghost use Rattle.sled_node.specs.Payloads.Links.{written_link, CanWriteLink};
 
 use super::*;
@@ -186,8 +187,10 @@ fn leaves_and_indexes(rt: HostRuntime) {
     }
 }
 
-// Whether no value is read, and the input stays where it was.
-pub(super) fn is_corrupt<T: Serialize>(alloc: Global, bytes: &[u8]) -> bool {
+// Whether no value is read, and the input stays where it was. Then the grammar has none for it.
+pub(super) fn is_corrupt<T: Serialize>(alloc: Global, bytes: &[u8]) -> bool
+    ensures { result ≡ true → ReadsNoValue T.reads bytes.now }
+{
     let mut rest = bytes;
     let answer = T::deserialize(alloc, &mut rest);
     matches!(&answer, Err(Error::Corruption(None))) && rest.len() == bytes.len()

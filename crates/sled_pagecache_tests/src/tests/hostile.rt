@@ -1,0 +1,376 @@
+// Files that are damaged by rule: each is opened, or refused, and shows its pages, as a plain reader of docs/FORMAT.md says.
+
+mod pages;
+mod payloads;
+mod records;
+
+use self::pages::{Page, is_shown, page_of};
+use self::payloads::{are_roots, is_number};
+use self::records::{Record, are_log, behind, messages_of, number_at, pages_in, records_in};
+use super::disks::Part::{Cancelled, Plain, Sealed};
+use super::disks::{Disked, Part, opened_on, written};
+use super::steps::Change::{Cap, Confirm, Del, Intend, Set};
+use super::steps::Outcome::{At, Done, Id};
+use super::steps::PAIR;
+use super::steps::Step::{Adds, AddsBetween, Flushes, Frees, Links, Opens, Swaps};
+use super::*;
+
+// How many files no log is opened over, and no cache; how many caches show a damaged page, and how many none.
+#[derive(Clone, Copy, Debug, Default, PartialEq, Eq)]
+struct Tally {
+    no_log: u32,
+    no_cache: u32,
+    damaged: u32,
+    whole: u32,
+}
+
+// ---- what the plain reader says
+
+// Whether a cache leaves a page of these records.
+fn is_fit(file: &[u8], page: u64, messages: &[Record]) -> bool {
+    if page > 1 {
+        return messages.len() <= 10;
+    }
+    let [only] = messages else {
+        return false;
+    };
+    let Some(payload) = file.get(..only.to) else {
+        return false;
+    };
+    match page {
+        0 => matches!(only.kind, 6 | 7) && are_roots(payload, only.from),
+        _ => only.kind == 5 && is_number(payload, only.from),
+    }
+}
+
+// Where the first page begins that no cache leaves so, if there is one.
+fn misfit(alloc: Global, file: &[u8], records: &[Record]) -> Option<u64> {
+    for page in 0..pages_in(records) {
+        let messages = messages_of(alloc, records, page)?;
+        if !is_fit(file, page, &messages) {
+            return Some(messages.first()?.place as u64);
+        }
+    }
+    None
+}
+
+// ---- what comes of a file
+
+// Whether the cache shows each page as it should, and whether one is damaged.
+fn all_shown(alloc: Global, cache: &mut Disked, file: &[u8], records: &[Record]) -> Option<bool> {
+    let mut is_damaged = false;
+    for pid in 2..pages_in(records).saturating_add(2) {
+        let page = page_of(alloc, file, &messages_of(alloc, records, pid)?);
+        is_damaged = is_damaged || matches!(page, Page::Wrong(_));
+        if !is_shown(cache, pid, file, &page) {
+            return None;
+        }
+    }
+    Some(is_damaged)
+}
+
+// Counts a file over which a cache was opened.
+fn count_opened(
+    alloc: Global,
+    tally: &mut Tally,
+    mut cache: Disked,
+    file: &[u8],
+    records: &[Record],
+) -> Option<()> {
+    if cache.was_recovered() != (pages_in(records) > 1) {
+        return None;
+    }
+    if all_shown(alloc, &mut cache, file, records)? {
+        count(&mut tally.damaged);
+    } else {
+        count(&mut tally.whole);
+    }
+    Some(())
+}
+
+fn count(files: &mut u32) {
+    *files = files.saturating_add(1);
+}
+
+// A disk with these bytes.
+fn disk_with(alloc: Global, file: &[u8]) -> Option<MemDisk> {
+    let mut disk = MemDisk::new(alloc, file.len().saturating_add(100)).ok()?;
+    disk.write_at(0, file).ok()?;
+    disk.sync().ok()?;
+    Some(disk)
+}
+
+// Where the page begins for which opening a cache is refused.
+fn refused_for(error: &Error) -> Option<u64> {
+    match error {
+        Error::Corruption(Some(DiskPtr::Inline(place))) => Some(*place),
+        _ => None,
+    }
+}
+
+// What comes of the opening of a file.
+type Opened = Result<Disked, (Error, MemDisk)>;
+
+// Counts a log, over which a cache is opened, or refused for the first page that no cache leaves so.
+fn count_log(
+    alloc: Global,
+    tally: &mut Tally,
+    opened: Opened,
+    file: &[u8],
+    records: &[Record],
+) -> Option<()> {
+    let misfit = misfit(alloc, file, records);
+    match opened {
+        Ok(cache) => {
+            misfit.is_none().then_some(())?;
+            count_opened(alloc, tally, cache, file, records)
+        }
+        Err((error, _disk)) => {
+            count(&mut tally.no_cache);
+            (misfit.is_some() && refused_for(&error) == misfit).then_some(())
+        }
+    }
+}
+
+// Counts a file that is no log.
+fn count_no_log(tally: &mut Tally, opened: Opened) -> Option<()> {
+    count(&mut tally.no_log);
+    match opened {
+        Err((Error::Corruption(None), _)) => Some(()),
+        _ => None,
+    }
+}
+
+// Counts a file, if what comes of it is what the plain reader says.
+fn count_file(alloc: Global, tally: &mut Tally, file: &[u8]) -> Option<()> {
+    let opened = opened_on(alloc, disk_with(alloc, file)?, 4096);
+    match records_in(alloc, file) {
+        Some(records) if are_log(&records, file) => {
+            count_log(alloc, tally, opened, file, &records)
+        }
+        _ => count_no_log(tally, opened),
+    }
+}
+
+// ---- the rule
+
+// Counts the file with other bytes at a place.
+fn count_with(
+    alloc: Global,
+    tally: &mut Tally,
+    file: &[u8],
+    at: usize,
+    bytes: &[u8],
+) -> Option<()> {
+    let mut changed = file.to_vec(alloc).ok()?;
+    for (i, byte) in bytes.iter().enumerate() {
+        *changed.get_mut(at.saturating_add(i))? = *byte;
+    }
+    count_file(alloc, tally, &changed)
+}
+
+// Each byte becomes 0, 255, one more and one less.
+fn count_bytes(alloc: Global, file: &[u8]) -> Option<Tally> {
+    let mut tally = Tally::default();
+    for (at, byte) in file.iter().enumerate() {
+        for other in [0, 255, byte.wrapping_add(1), byte.wrapping_sub(1)] {
+            count_with(alloc, &mut tally, file, at, &[other])?;
+        }
+    }
+    Some(tally)
+}
+
+// Each proper prefix.
+fn count_prefixes(alloc: Global, file: &[u8]) -> Option<Tally> {
+    let mut tally = Tally::default();
+    for len in 0..file.len() {
+        count_file(alloc, &mut tally, file.get(..len)?)?;
+    }
+    Some(tally)
+}
+
+// Counts the file with another number at a place: one off the one that stands there, none, and large ones.
+fn count_numbers(alloc: Global, tally: &mut Tally, file: &[u8], at: usize) -> Option<()> {
+    let here = number_at(file, at)?;
+    for other in [
+        here.wrapping_sub(1),
+        here.wrapping_add(1),
+        0,
+        1 << 32,
+        1 << 63,
+        u64::MAX,
+    ] {
+        count_with(alloc, tally, file, at, &other.to_le_bytes())?;
+    }
+    Some(())
+}
+
+// The records that begin a frame.
+fn firsts_in(alloc: Global, file: &[u8]) -> Option<Vec<Record>> {
+    let mut firsts = Vec::new(alloc);
+    let mut frame = 0;
+    for record in &records_in(alloc, file)? {
+        if record.frame != frame {
+            frame = record.frame;
+            firsts.push(*record).ok()?;
+        }
+    }
+    Some(firsts)
+}
+
+// The length of each frame.
+fn count_lengths(alloc: Global, file: &[u8]) -> Option<Tally> {
+    let mut tally = Tally::default();
+    for record in &firsts_in(alloc, file)? {
+        count_numbers(alloc, &mut tally, file, record.place.checked_sub(8)?)?;
+    }
+    Some(tally)
+}
+
+// The page, the length and the place of a mark, and the places of all records in its place.
+fn count_mark(
+    alloc: Global,
+    tally: &mut Tally,
+    file: &[u8],
+    records: &[Record],
+    mark: &Record,
+) -> Option<()> {
+    for at in [behind(mark.place, 1), behind(mark.place, 9), mark.from] {
+        count_numbers(alloc, tally, file, at)?;
+    }
+    for record in records {
+        let place = record.place as u64;
+        count_with(alloc, tally, file, mark.from, &place.to_le_bytes())?;
+    }
+    Some(())
+}
+
+// Each mark of a batch.
+fn count_marks(alloc: Global, file: &[u8]) -> Option<Tally> {
+    let mut tally = Tally::default();
+    let records = records_in(alloc, file)?;
+    for record in &records {
+        if record.kind == 3 {
+            count_mark(alloc, &mut tally, file, &records, record)?;
+        }
+    }
+    Some(tally)
+}
+
+// The file with the frame that begins with one record, and a later one, in each other's place.
+fn exchanged(alloc: Global, file: &[u8], one: &Record, other: &Record) -> Option<Vec<u8>> {
+    let first = one.place.checked_sub(9)?;
+    let second = other.place.checked_sub(9)?;
+    let mut changed = Vec::new(alloc);
+    for (from, to) in [
+        (0, first),
+        (second, other.frame),
+        (one.frame, second),
+        (first, one.frame),
+        (other.frame, file.len()),
+    ] {
+        changed.extend_from_slice(file.get(from..to)?).ok()?;
+    }
+    Some(changed)
+}
+
+// Each two frames are exchanged.
+fn count_exchanges(alloc: Global, file: &[u8]) -> Option<Tally> {
+    let mut tally = Tally::default();
+    let firsts = firsts_in(alloc, file)?;
+    for one in &firsts {
+        for other in &firsts {
+            if one.place < other.place {
+                let changed = exchanged(alloc, file, one, other)?;
+                count_file(alloc, &mut tally, &changed)?;
+            }
+        }
+    }
+    Some(tally)
+}
+
+// ---- files
+
+const LEAF: &[Part] = &[Plain(&[Adds(2, 1), Links(2, 1, PAIR, At(2)), Flushes])];
+
+// Leaves with bounds and without, an index, links of each kind, a page that is free, roots, and batches that are sealed and cancelled.
+const MANY: &[Part] = &[
+    Plain(&[
+        Adds(2, 1),
+        Adds(3, 1),
+        AddsBetween(4, b"ba", b"bz"),
+        Links(4, 1, PAIR, At(2)),
+        Flushes,
+    ]),
+    Sealed(&[Links(2, 1, PAIR, At(2)), Links(2, 2, Del(b"b"), At(3))]),
+    Plain(&[
+        Frees(3, 1, At(2)),
+        Opens(b"t", Id(5)),
+        Links(5, 1, Intend(3), At(2)),
+        Flushes,
+        Links(5, 2, Confirm, At(3)),
+        Links(3, 3, Set(b"c", b"w"), At(4)),
+    ]),
+    Cancelled(&[Links(3, 4, Cap, At(5))]),
+    Sealed(&[]),
+    Plain(&[
+        Swaps(b"u", None, Some(2), Done),
+        Adds(6, 1),
+        Frees(6, 1, At(2)),
+        Flushes,
+        Links(2, 3, PAIR, At(4)),
+        Flushes,
+        Links(2, 4, Set(b"c", b"w"), At(5)),
+        Flushes,
+    ]),
+];
+
+// Of the bytes of a file, its prefixes, its lengths, its marks and its exchanges: how many files no log is opened over, and no cache, and
+// how many caches show a damaged page, and none.
+type Counts = [[u32; 4]; 5];
+
+fn counts_of(alloc: Global, parts: &[Part]) -> Option<Counts> {
+    let disk = written(alloc, 4096, 4096, parts)?;
+    let file = disk.bytes();
+    Some([
+        numbers(count_bytes(alloc, file)?),
+        numbers(count_prefixes(alloc, file)?),
+        numbers(count_lengths(alloc, file)?),
+        numbers(count_marks(alloc, file)?),
+        numbers(count_exchanges(alloc, file)?),
+    ])
+}
+
+fn numbers(tally: Tally) -> [u32; 4] {
+    [tally.no_log, tally.no_cache, tally.damaged, tally.whole]
+}
+
+const FILES: &[(&[Part], Counts)] = &[
+    (
+        LEAF,
+        [
+            [290, 6, 35, 105],
+            [109, 0, 0, 0],
+            [12, 0, 0, 0],
+            [0, 0, 0, 0],
+            [1, 0, 0, 0],
+        ],
+    ),
+    (
+        MANY,
+        [
+            [1432, 23, 211, 698],
+            [591, 0, 0, 0],
+            [36, 0, 0, 0],
+            [72, 0, 0, 12],
+            [14, 0, 0, 1],
+        ],
+    ),
+];
+
+#[test]
+fn damage_is_told_as_the_format_says(rt: HostRuntime) {
+    for (parts, counts) in FILES {
+        assert_eq!(rt; counts_of(rt.alloc(), parts), Some(*counts));
+    }
+}
