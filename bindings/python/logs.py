@@ -24,23 +24,23 @@ def is_log(content):
 
 
 def _are_records(content, at, end, pages):
-    wanted = set()
+    places, named = set(), set()
     while at < end:
-        wanted.discard(at)
+        places.add(at)
         if end - at < 17:
             return False
         kind, page, length = struct.unpack_from("<BQQ", content, at)
-        if length > end - at - 17 or (wanted and min(wanted) < at):
+        if length > end - at - 17:
             return False
         if kind == SEALED_BATCH:
             place = struct.unpack_from("<Q", content, at + 17)[0] if length == 8 else 0
             if page != BATCH or place < at:
                 return False
-            wanted |= {place} - {at}
+            named.add(place)
         elif not _fits(kind, page, pages):
             return False
         at += 17 + length
-    return not wanted
+    return named <= places
 
 
 def _fits(kind, page, pages):

@@ -1,4 +1,6 @@
-"""Cases, each of which a number and a seed decide: the first are two logs damaged by rule, each way once, and then they are random."""
+"""Cases, each of which a number and a seed decide. Every second one is fixed, as long as there are: long logs, and two logs damaged by
+rule, each way once. The others are random.
+"""
 
 import random
 
@@ -15,15 +17,23 @@ _LOOK = b"".join(b"get %d\n" % page for page in range(2, 8)) + b"root 74\nroot 7
 class Cases:
     def __init__(self, program, seed):
         self._program, self._seed = program, seed
-        self._by_rule = [damaged for text in (files.LEAF, files.SCRIPT) for damaged in files.damaged(program.written(text))]
+        self._fixed = []
+
+    def prepare(self):
+        """Has the program make what will be damaged."""
+        self._fixed = list(files.long_logs())
+        for text in (files.LEAF, files.SCRIPT):
+            self._fixed += files.damaged(self._program.written(text))
 
     def make(self, case):
         """Makes a case. An exception tells what is wrong."""
-        if case < len(self._by_rule):
-            self._program.opens(self._by_rule[case], _LOOK)
-            return
-        self._random = random.Random(f"{self._seed} {case}")
-        self._random.choice((self._any_file, self._any_file, self._damaged_file, self._any_script, self._any_words))()
+        if case == 0:
+            self._program.opens_with_gap(*files.GAP, b"get 2\nget 3\nsize\n", b"error memory\nleaf 0\nsize %d\n" % files.GAP_SIZE)
+        elif case % 2 == 0 and case // 2 <= len(self._fixed):
+            self._program.opens(self._fixed[case // 2 - 1], _LOOK)
+        else:
+            self._random = random.Random(f"{self._seed} {case}")
+            self._random.choice((self._any_file, self._any_file, self._damaged_file, self._any_script, self._any_words))()
 
     def _any_file(self):
         for _ in range(8):
@@ -65,7 +75,8 @@ class Cases:
             script.reply_to(cache, asked[-1])
         text = b"\n".join(asked) + b"\n"
         if may_damage and self._random.randrange(3) == 0:
-            text = self._damaged(text) if self._random.randrange(20) else text + b"alloc 61=" + b"62" * self._random.choice((32763, 32764, 100000))
+            longest = b"alloc 61=" + b"62" * self._random.choice((32763, 32764, 100000))
+            text = self._damaged(text) if self._random.randrange(20) else text + longest
         if self._random.randrange(2):
             text += b"\nflush\n"
         return b"\n".join(line for line in text.split(b"\n") if not lines.names_page_0(line))

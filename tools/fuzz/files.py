@@ -17,6 +17,31 @@ SCRIPT = (
 )
 
 
+# The frame of the cache's own pages.
+_OWN = b"\1" + struct.pack("<Q", 35) + record(6, 0, b"") + record(5, 1, b"\0")
+
+# A page whose payload has 2 GiB of zeros, and one behind it: what stands in front of the zeros, how many there are, and what behind.
+_ZEROS = 1 << 31
+GAP = (
+    OPENING + _OWN + b"\1" + struct.pack("<Q", 42 + _ZEROS) + struct.pack("<BQQ", 8, 2, _ZEROS),
+    _ZEROS,
+    record(8, 3, bytes(8)) + b"\0",
+)
+GAP_SIZE = len(GAP[0]) + _ZEROS + len(GAP[2])
+
+
+def long_logs():
+    """Logs of 100,000 records: marks that all name the last, marks that name one the other way round, and cancelled batches."""
+    count, first = 100_000, len(OPENING + _OWN) + 9
+    places = range(first, first + 25 * count, 25)
+    for records in (
+        record(3, BATCH, struct.pack("<Q", places[-1])) * count,
+        b"".join(record(3, BATCH, struct.pack("<Q", max(place, places[-1 - at]))) for at, place in enumerate(places)),
+        record(1, 0, b"") * count,
+    ):
+        yield OPENING + _OWN + b"\1" + struct.pack("<Q", len(records)) + records + b"\0"
+
+
 def frames_of(content):
     """Where the frames of a log stand, as far as there are any: the place of each gate, and where its frame ends."""
     at, found = len(OPENING), []

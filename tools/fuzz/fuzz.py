@@ -26,15 +26,15 @@ def main(path, seconds, seed, *only):
     end = time.monotonic() + float(seconds)
     with tempfile.TemporaryDirectory(dir=PLACE) as folder:
         program = Program(path, folder)
-        case = "of the files that are damaged"
+        cases, case = Cases(program, seed), 0
         try:
-            cases = Cases(program, seed)
+            cases.prepare()
             for case in map(int, only) if only else itertools.count():
                 if not only and time.monotonic() >= end:
                     break
                 cases.make(case)
         except (Wrong, subprocess.TimeoutExpired) as error:
-            print(f"fuzz: case {case} of seed {seed}: {error!r}\nfuzz: tools/fuzz.sh 0 {seed} {case} makes it again")
+            print(f"fuzz: case {case}: {error!r}\nfuzz: tools/fuzz.sh 0 {seed} {case} makes it again")
             return 1
     counts = ", ".join(f"{number} {what}" for what, number in sorted(program.counts.items()))
     print(f"fuzz: passed (seed {seed}: {counts})")

@@ -3,7 +3,6 @@
 import collections
 import io
 import os
-import resource
 import subprocess
 
 import lines
@@ -11,9 +10,9 @@ import script
 from journal import OPENING
 from pages import DAMAGED, Cache, Pages, held_in, shown
 
-# So many seconds may a run take, and so many bytes of addresses may it have.
+# So many seconds may a run take. It may have 64 MiB of addresses; Python would take longer to set that.
 LONGEST = 10
-ROOM = 64 << 20
+BOUNDED = "/bin/sh", "-c", 'ulimit -c 0; ulimit -v 65536; exec "$0" "$@"'
 
 CORRUPT = b"sledpc: error corruption\n"
 USAGE = b"usage: sledpc mem | file PATH | crew N M\n"
@@ -26,11 +25,6 @@ class Wrong(Exception):
 def check(holds, *told):
     if not holds:
         raise Wrong(*told)
-
-
-def _limit():
-    resource.setrlimit(resource.RLIMIT_AS, (ROOM, ROOM))
-    resource.setrlimit(resource.RLIMIT_CORE, (0, 0))
 
 
 class Program:
@@ -51,28 +45,38 @@ class Program:
         self._put(content)
         self._over_file(text, content)
 
+    def opens_with_gap(self, front, gap, rest, text, replies):
+        """Runs a script over a file with so many zeros in it, of which the system keeps none."""
+        self.counts["files opened"] += 1
+        with open(self._file, "wb") as file:
+            file.write(front)
+            file.seek(gap, os.SEEK_CUR)
+            file.write(rest)
+        self._gives(["file", self._file], text, 0, replies)
+        self._put(b"")
+
     def over_memory(self, text):
         self.counts["scripts in memory"] += 1
         self._answers(["mem"], text, Pages([]))
 
     def counts_calls(self, words, calls):
-        check(self._run(words, b"") == (0, b"%d calls\n" % calls, b""), "calls")
+        self._gives(words, b"", 0, b"%d calls\n" % calls)
 
     def refuses_words(self, words):
         self.counts["wrong words"] += 1
-        check(self._run(words, b"alloc\n") == (2, b"", USAGE), "wrong words")
+        self._gives(words, b"alloc\n", 2, faults=USAGE)
 
     def _over_file(self, text, content):
-        held = held_in(content or OPENING + b"\0")
+        words, held = ["file", self._file], held_in(content or OPENING + b"\0")
         if held is None:
             self.counts["files refused"] += 1
-            check(self._run(["file", self._file], text) == (1, b"", CORRUPT), "it isn't refused")
+            self._gives(words, text, 1, faults=CORRUPT)
             check(self._content() == content, "a file that is refused was written")
             return
         self.counts["files opened"] += 1
         self.counts["pages damaged"] += sum(page.content is DAMAGED for page in held)
         pages = Pages(held)
-        replies = self._answers(["file", self._file], text, pages)
+        replies = self._answers(words, text, pages)
         left = held_in(self._content())
         check(left is not None, "it leaves no log")
         if replies and replies[-1].startswith(b"flushed"):
@@ -80,20 +84,22 @@ class Program:
 
     def _answers(self, words, text, pages):
         """The replies to a script, which are the model's."""
-        status, output, faults = self._run(words, text)
-        check((status, faults) == (0, b""), "status", status, faults[:200])
-        replies = output.splitlines()
-        cache, asked = Cache(pages), [line.removesuffix(b"\n") for line in io.BytesIO(text)]
+        output = self._gives(words, text, 0, None)
+        replies, cache = output.splitlines(), Cache(pages)
+        asked = [line.removesuffix(b"\n") for line in io.BytesIO(text)]
         check(len(replies) == len(asked) and output[-1:] in (b"", b"\n"), "replies", len(replies), len(asked))
         for line, reply in zip(asked, replies):
             wanted = script.reply_to(cache, line)
             check(lines.is_reply(reply, wanted, line), "reply", line[:200], reply[:200], wanted[:200])
         return replies
 
-    def _run(self, words, text):
+    def _gives(self, words, text, status, output=b"", faults=b""):
+        """What the program writes, which is this if it is given. So are its status and what it reports."""
         self.counts["runs"] += 1
-        ran = subprocess.run([self._program, *words], input=text, capture_output=True, timeout=LONGEST, preexec_fn=_limit)
-        return ran.returncode, ran.stdout, ran.stderr
+        ran = subprocess.run([*BOUNDED, self._program, *words], input=text, capture_output=True, timeout=LONGEST)
+        check((ran.returncode, ran.stderr) == (status, faults), "status", ran.returncode, status, ran.stderr[:200])
+        check(output is None or ran.stdout == output, "output", ran.stdout[:200])
+        return ran.stdout
 
     def _put(self, content):
         with open(self._file, "wb") as file:
