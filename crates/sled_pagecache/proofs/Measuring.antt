@@ -1,5 +1,5 @@
 -- Measuring the pages of a cache: how often the log is read, and the call as a step of the machine.
-use Rattle.sled_pagecache.proofs.Names.{◌≡◌, ◌≤◌, ◌<◌, ◌+◌, ℕ, Bool, false, List, [], ◌∷◌, ◌++◌, length, map, take, Some, Result, Ok, Err, slice_get, slice_index_or, refl, sym, ◌∙◌, ap, arith, AllZip, get_or_from_slice_get, Ghosts, Recency, Config, StickyLog, Page, Cache, Steps, Went, Went-then, IsCaused, IsCaused-handed_on, IsCaused-since, IsKept, IsWhole, IsWrongAt, DiskPtr, Makes, WholeNode, Error, Refusal, Chain, Content, Free, Counter, Roots, Node, Damaged, Holds, Hold, Counts, HasRead, messages_of, effect_of_entry, now, view, error_of, chain_at, count_after, resident_in, is_reserved, AreOwn, State, StampedPage, contents_of, page, page_at, IsHindered, IsCorruption, Amplified, SpaceAmplification, holds-made, most_pages, zip-second, map-at, slice_get_within, sum_by, sum_by-cons, sum_by_push}
+use Rattle.sled_pagecache.proofs.Names.{◌≡◌, ◌≤◌, ◌<◌, ◌+◌, ℕ, zero, suc, Bool, false, List, [], ◌∷◌, ◌++◌, length, map, take, Some, Result, Ok, Err, slice_get, slice_index_or, refl, sym, ◌∙◌, ap, arith, AllZip, get_or_from_slice_get, Ghosts, Recency, Config, StickyLog, Page, Cache, Steps, Went, Went-then, IsCaused, IsCaused-handed_on, IsCaused-since, IsKept, IsWhole, IsWrongAt, DiskPtr, Makes, WholeNode, Error, Refusal, Chain, Content, Free, Counter, Roots, Node, Damaged, Holds, Hold, Counts, HasRead, messages_of, effect_of_entry, now, view, error_of, chain_at, count_after, resident_in, is_reserved, AreOwn, State, StampedPage, contents_of, page, page_at, IsHindered, IsCorruption, Amplified, SpaceAmplification, holds-made, most_pages, zip-second, map-at, slice_get_within, sum_by, sum_by-cons, sum_by_push}
 use Rattle.std.proofs.lemmas.List.Sums.{sum_by_more, sum_by_more_le}
 use Rattle.sled_pagecache.proofs.CacheSteps.{steps-went}
 use Rattle.sled_pagecache.proofs.ChainReads.{more-add}
@@ -93,6 +93,16 @@ have-one (chain ∷ chains) (h ∷ held) (content ∷ contents) hold have =
     let rest = have-one chains held contents hold.1 have.1 in
     cc
 have-one chains held contents hold have = absurd (grind arith)
+
+-- the same of the first of them
+pub have-taken : (many : ℕ) (chains : List Chain) (held contents : List Content) → Hold (map messages_of chains) held → AllZip HasContent (take many chains) contents → contents ≡ take many held
+have-taken zero chains held [] hold have = refl
+have-taken (suc many) [] [] [] hold have = refl
+have-taken (suc many) (chain ∷ chains) (h ∷ held) (content ∷ contents) hold have =
+    let first = has-one chain h content hold.0 have.0 in
+    let rest = have-taken many chains held contents hold.1 have.1 in
+    cc
+have-taken many chains held contents hold have = absurd (grind arith)
 
 none-damaged : (chains : List Chain) (contents : List Content) → AllZip HasContent chains contents → ¬ HasDamaged contents
 none-damaged chains contents have (pid, at) = zip-second HasContent chains contents pid Damaged [] have at

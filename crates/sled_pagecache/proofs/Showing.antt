@@ -1,6 +1,6 @@
 -- Why every run of openings shows pages after a prefix of the changes, which holds all that was flushed, and gives no generated id twice:
 -- what opens over a log, however a cache over it ended, begins above every id that was answered.
-use Rattle.sled_pagecache.proofs.Names.{Counter, Roots, drop_all, seen_event, map, message_in, Answer, Cache, Call, Config, Content, Err, Error, Generated, Ghosts, Represents, IsLogged, IsStep, List, Logged, Messages, Ok, Result, Started, State, Outcome, [], ◌∷◌, ◌++◌, ap, append-nil, append_assoc, arith, changes_of_start, false, inl, inr, IfErr, IsErrAnd, stable_contents, opened_state, refl, subst, sym, true, unplaced_state, ℕ, ◌≡◌, ◌≢◌, ◌≤◌, ◌+◌, ◌⊎◌, ⊎_elim, ◌∙◌, true≢false, Update, Event, StepOver, Adds, IsPrefix, IsPrefix-all, IsPrefix-none, Crashed, CrashedIn, Ending, HandedOn, IsEmpty, IsRun, Lasted, Leaves, LeavesUnopened, Opening, HoldsCrash, KeepIntervals, OnlyNow, left-now, AreMade, AreSteps, CoversId, IsCovered, IsMade, ReportsBytes, Opens, MayBeOpened, Unsupported, Write, has_own, cases_Bool, cases_lt, contents_after, contents_of, id_in, ids_in, ids_of, length, length-drop, AddsEvents-then, CrashKeeps-added, CrashKeeps-more, IsFair-none, contents_after-append, log_after, step-stuck}
+use Rattle.sled_pagecache.proofs.Names.{Counter, Roots, drop_all, seen_event, map, message_in, Answer, Cache, Call, Config, Content, Err, Error, Generated, Ghosts, Represents, IsLogged, IsStep, List, Logged, Messages, Ok, Result, Started, State, Outcome, [], ◌∷◌, ◌++◌, ap, append-nil, append_assoc, arith, changes_of_start, false, inl, inr, IfErr, IsErrAnd, stable_contents, opened_state, refl, subst, sym, true, unplaced_state, ℕ, ◌≡◌, ◌≢◌, ◌≤◌, ◌+◌, ◌⊎◌, ⊎_elim, ◌∙◌, true≢false, Update, Event, StepOver, Adds, IsPrefix, IsPrefix-all, IsPrefix-none, Crashed, CrashedIn, Ending, HandedOn, Rewritten, IsEmpty, IsRun, Lasted, Leaves, LeavesUnopened, Opening, HoldsCrash, KeepIntervals, OnlyNow, left-now, AreMade, AreSteps, CoversId, IsCovered, IsMade, ReportsBytes, Opens, MayBeOpened, Unsupported, Write, has_own, cases_Bool, cases_lt, contents_after, contents_of, id_in, ids_in, ids_of, length, length-drop, AddsEvents-then, CrashKeeps-added, CrashKeeps-more, IsFair-none, contents_after-append, log_after, step-stuck}
 use Rattle.sled_pagecache.specs.Openings.{Refused}
 use Rattle.sled_pagecache.proofs.Carrying.{proper-now}
 use Rattle.sled_pagecache.proofs.Counting.{BeginsAbove, CountsTo, IsSafe, Rises, first-at, now-added, rises-over, rises-parts, safe-added, safe-crash, start-counts, start-rises}
@@ -333,6 +333,21 @@ module _ {L : Type 0} (g : Ghosts L) (tells : g.tells)
     ends HandedOn (clear, same) =
         ⊎_elim
         (λ on. (h, (on.clear, refl), subst (IsFound h interval bound) (sym same) (record { held = stands.held; logged = (stands.is.known on.clear).logged; told = on.told })))
+        (λ stuck. absurd (true≢false (sym stuck.kept ∙ stands.is.fault ∙ clear))) stands.so
+    ends Rewritten (clear, rewritten) =
+        ⊎_elim
+        (λ on.
+        let held = stands.held in
+        let safe = on.told.safe in
+        let told = tells-nothing (now held) interval bound (λ k wide. omega (arith, safe.above k wide, rises-over held.stable held.pending safe.rises k)) in (
+          history_from (pages_by_now h),
+          (on.clear, refl),
+          record {
+            held = stable_contents (now held);
+            logged = rewritten.contents tells tells held (stands.is.known on.clear).logged;
+            told = subst (λ (contents : List Content). Tells (history_from contents) interval bound (stable_contents (now held))) (tells-now h interval bound held on.told) told;
+          },
+        ))
         (λ stuck. absurd (true≢false (sym stuck.kept ∙ stands.is.fault ∙ clear))) stands.so
 
   -- ---- openings one after another

@@ -25,3 +25,4 @@ pub mod MadeLaws
 pub mod Moves
 pub mod Appends
 pub mod Loading
+pub mod Rewriting

@@ -17,6 +17,7 @@ pub mod Lending
 pub mod Rows
 pub mod Opening
 pub mod Reopening
+pub mod Rewriting
 pub mod Batches
 pub mod Openings
 pub mod Prefixes

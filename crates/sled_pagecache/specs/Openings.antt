@@ -8,6 +8,7 @@ use Rattle.sled_log.specs.LogState.{unplaced_state}
 use Rattle.sled_log.specs.declared.log.Log.{Ghosts}
 use Rattle.sled_pagecache.specs.Cache.{Cache}
 use Rattle.sled_pagecache.specs.Reopening.{HoldsCrash, Started}
+use Rattle.sled_pagecache.specs.Rewriting.{IsRewritten}
 use Rattle.sled_pagecache.specs.Rows.{IsMade, AreMade}
 use Rattle.sled_pagecache.specs.Opening.{MayBeOpened, log_after, stable_state}
 use Rattle.sled_pagecache.specs.declared.pagecache.handles.call.Answer.{Answer}
@@ -15,12 +16,13 @@ use Rattle.sled_pagecache.specs.declared.pagecache.handles.call.Answer.TheVarian
 use Rattle.sled_pagecache.specs.declared.pagecache.handles.call.Call.{Call}
 use Rattle.sled_pagecache.specs.declared.pagecache.handles.config.Config.{Config}
 
--- How an opening ends: by a crash between two calls, by a crash inside a call, which would have been answered so, or by handing its
--- log on.
+-- How an opening ends: by a crash between two calls, by a crash inside a call, which would have been answered so, by handing its log on,
+-- or by handing on another log, which it was rewritten into.
 pub data Ending : Type 0 where
   Crashed : Ending
   CrashedIn : (call : Call) (answer : Answer) → Ending
   HandedOn : Ending
+  Rewritten : Ending
 
 -- What was done to a log, and the log that was left: no cache was opened over it, or one was, and answered these calls.
 pub data Opening (L : Type 0) : Type 0 where
@@ -48,6 +50,7 @@ module _ {L : Type 0} (g : Ghosts L) where
   Leaves last Crashed left = HoldsCrash g last.log (g.moment last.log) left
   Leaves last (CrashedIn call answer) left = (then : Cache L) × IsMade g last call answer then × HoldsCrash g then.log (g.moment last.log) left
   Leaves last HandedOn left = (last.fault ≡ false) × (left ≡ last.log)
+  Leaves last Rewritten left = (last.fault ≡ false) × IsRewritten g g last left
 
   -- A log was opened so often, each time as the time before left it.
   abbrev pub IsRun : L → List (Opening L) → Type 0

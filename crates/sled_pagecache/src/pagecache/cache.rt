@@ -22,6 +22,7 @@ pub(crate) mod guard;
 mod ids;
 mod moves;
 mod pages;
+mod rewrite;
 mod roots;
 mod shapes;
 mod sizes;

@@ -7,6 +7,7 @@ ghost use Rattle.sled_log.specs.Messages.{effect_of_entry, message};
 ghost use Rattle.sled_log.specs.LogState.{now};
 ghost use Rattle.sled_log.specs.Reading.{message_of};
 ghost use Rattle.sled_node.specs.Meta.{IsRootMap};
+ghost use Rattle.sled_node.specs.Node.{empty_leaf};
 ghost use Rattle.sled_node.specs.Payloads.Links.{CanWriteLink};
 ghost use Rattle.sled_pagecache.specs.Inside.PageWrites.{CanPut, WritesMessage, Wrote, content_of};
 
@@ -15,7 +16,7 @@ use crate::pagecache::table::page::{CacheInfo, Kept};
 use crate::pagecache::write::sticky_log::StickyLog;
 use sled_base::{MessageKind, PageId, Refusal, Serialize};
 use sled_log::Log;
-use sled_node::{Link, Meta};
+use sled_node::{Link, Meta, Node};
 use std::alloc::Global;
 
 // A payload of at most so many bytes is made without an allocation.
@@ -49,6 +50,33 @@ pub(crate) fn write_node<L: Log>(
         pid,
         node,
         size,
+        stamp,
+    )
+}
+
+// Writes an empty leaf to the log as the content of a page, and answers how it is kept, at that stamp.
+pub(crate) fn write_empty_leaf<L: Log>(
+    alloc: Global,
+    sticky_log: &mut StickyLog<L>,
+    pid: PageId,
+    stamp: u64,
+) -> Result<CacheInfo, Refusal>
+    requires ready { sticky_log.old.fault ≡ false }
+    requires usable { (L.state sticky_log.old.log).usable ≡ true }
+    requires there { L.tells → pid ≤ length (now effect_of_entry (L.state sticky_log.old.log)) }
+    ensures { Wrote L.Log sticky_log.old sticky_log.new pid
+        (contents.Put (contents.Node empty_leaf)) stamp result }
+{
+    let leaf = Node::default(alloc);
+    // Every node is well-formed.
+    let _ = leaf.data();
+    write(
+        alloc,
+        sticky_log,
+        MessageKind::InlineNode,
+        pid,
+        &leaf,
+        leaf.serialized_size(),
         stamp,
     )
 }

@@ -176,7 +176,7 @@ fn rewrite<L: Log>(
 }
 
 // Whatever lies in memory can be written. Nothing is done.
-fn know_limits(kept: &Kept)
+pub(crate) fn know_limits(kept: &Kept)
     requires { is_resident kept.now ≡ true }
     ensures { CanPut kept.now }
 {
