@@ -1,5 +1,5 @@
 -- What the messages of a rewriting make of a log that holds no page.
-use Rattle.sled_pagecache.proofs.Names.{◌≡◌, ◌+◌, ◌≤◌, ℕ, Bool, List, [], ◌∷◌, ◌++◌, length, map, refl, sym, ◌∙◌, ap, subst, arith, append-nil, append_assoc, length-append, length-map, AllByRecursion, AreKept, Content, Counter, Damaged, Event, Free, Hold, IsProper, Message, Messages, Node, Put, Roots, Update, chains_after, counts-read, effect_of, most_pages, open_after, open_after-append, seen_event, message_of}
+use Rattle.sled_pagecache.proofs.Names.{◌≡◌, ◌+◌, ◌≤◌, ℕ, Bool, List, [], ◌∷◌, ◌++◌, length, map, refl, sym, ◌∙◌, ap, arith, append-nil, append_assoc, length-append, AllByRecursion, AreKept, Content, Counter, Damaged, Event, Free, Hold, Messages, Node, Put, Roots, Update, chains_after, counts-read, effect_of, most_pages, open_after, open_after-append, seen_event, message_of}
 use Rattle.std.proofs.lemmas.List.{map-append}
 use Rattle.std.proofs.Math.Seq.{set-append_seam}
 use Rattle.sled_log.specs.Inside.HoldingLaws.{counts-holds}

@@ -156,7 +156,7 @@ pub use Rattle.sled_pagecache.specs.Rows.{AreMade, AreSteps, CoversId, IsMade, I
 pub use Rattle.sled_pagecache.specs.Inside.Invariant.{IsCounted, IsWhole, CountsAgain, SparesCounter, StaysCounted}
 pub use Rattle.sled_base.specs.Order.{Bytes}
 pub use Rattle.sled_node.specs.declared.node.link.Link.{Link as NodeLink}
-pub use Rattle.sled_pagecache.specs.Openings.{AreRising, Crashed, CrashedIn, Ending, HandedOn, Rewritten, IsEmpty, IsRun, KeepIntervals, Lasted, Leaves, LeavesUnopened, Opening, id_in, ids_in, ids_of}
+pub use Rattle.sled_pagecache.specs.Openings.{AreRising, Crashed, CrashedIn, CrashedRewriting, Ending, HandedOn, Rewritten, IsEmpty, IsRun, KeepIntervals, Lasted, Leaves, LeavesUnopened, Opening, id_in, ids_in, ids_of}
 pub use Rattle.std.proofs.Math.Nat.{add-mul-div_right, div-mul-le_self, lt-div-mul-add, mul-le-mul_right, suc-mul}
 pub use Rattle.sled_pagecache.specs.Answers.{GivesId, IsBelowCounter, IsCovered}
 pub use Rattle.std.specs.BTreeSet.{insert_key}

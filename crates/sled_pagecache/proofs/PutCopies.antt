@@ -1,5 +1,5 @@
 -- A content that is put on the next new page of a log: one message, or two where the page is free.
-use Rattle.sled_pagecache.proofs.Names.{◌≡◌, ℕ, true, false, List, [], ◌∷◌, Option, None, Some, Result, Ok, Err, arith, refl, sym, subst, CacheInfo, Change, Event, Free, Ghosts, IsLeft, Kept, Message, Messages, Node, Proceeds, Put, Refusal, StickyLog, Update, Wrote, content_of, effect_of, empty_leaf, is_free, message_of, refusal_in, unplaced_state, written-update}
+use Rattle.sled_pagecache.proofs.Names.{◌≡◌, ℕ, true, false, List, [], ◌∷◌, Some, Result, Ok, Err, arith, sym, subst, CacheInfo, Change, Event, Free, Ghosts, IsLeft, Kept, Messages, Node, Proceeds, Put, Refusal, StickyLog, Update, Wrote, content_of, effect_of, empty_leaf, is_free, message_of, refusal_in, unplaced_state, written-update}
 use Rattle.sled_log.specs.Events.{seen_events}
 use Rattle.sled_pagecache.proofs.Proceeding.{proceeds-first, proceeds-then, proceeds-unplaced}
 use Rattle.sled_pagecache.specs.Inside.Rewriting.{PutsCopy}

@@ -1,5 +1,5 @@
 -- Rewriting a cache into another log: its pages are copied one after another, and what that leaves of both.
-use Rattle.sled_pagecache.proofs.Names.{◌≡◌, ◌≢◌, ◌≤◌, ◌<◌, ◌+◌, ◌⊎◌, ℕ, true, false, List, [], ◌∷◌, ◌++◌, length, map, take, drop, Option, None, Some, Result, Ok, Err, refl, sym, ◌∙◌, ap, subst, inl, inr, ⊎_elim, arith, append_assoc, append-nil, length-append, length-map, slice_get, slice_get_within, slice_index_or, sum_by, take-append-drop, take_all, AllByRecursion, AllZip, AllZip-long, CrashesSinceLeave, Cache, Chain, Comes, Content, Event, Ghosts, Holds, HoldsChain, IsKept, Kept, Makes, Node, Page, WholeNode, content_of, is_resident, IsCaused, IsLeft, IsLogged, IsOfLog, LogFull, LogState, Logged, Message, Messages, Proceeds, Refusal, StickyLog, TakesNoRoom, Update, Went, Went-last, Went-none, Change, IsCaused-since, chain_at, chains_after, effect_of, effect_of_entry, holds_now, is_open, message_in, message_of, messages_of, now, now-unplaced, now-Went, open_after, refusal_in, seen_event, stable_state, stable_contents, unplaced_state}
+use Rattle.sled_pagecache.proofs.Names.{◌≡◌, ◌≢◌, ◌≤◌, ◌<◌, ◌+◌, ℕ, true, false, List, [], ◌∷◌, ◌++◌, length, map, take, drop, Option, None, Some, Result, Ok, Err, refl, sym, ◌∙◌, ap, subst, inl, inr, ⊎_elim, arith, append_assoc, length-append, length-map, slice_get, slice_get_within, slice_index_or, sum_by, take-append-drop, take_all, AllByRecursion, AllZip, AllZip-long, CrashesSinceLeave, Cache, Chain, Comes, Content, Event, Ghosts, Holds, HoldsChain, IsKept, Kept, Makes, Node, Page, WholeNode, content_of, is_resident, IsCaused, IsLeft, IsLogged, IsOfLog, LogFull, LogState, Logged, Message, Messages, Proceeds, Refusal, StickyLog, Update, Went-last, Went-none, IsCaused-since, chain_at, chains_after, effect_of, effect_of_entry, holds_now, is_open, message_in, message_of, messages_of, now, now-unplaced, now-Went, refusal_in, seen_event, stable_state, stable_contents, unplaced_state}
 use Rattle.sled_base.specs.declared.types.Refusal.TheVariants.{Unsupported}
 use Rattle.sled_log.specs.Events.{seen_events}
 use Rattle.sled_pagecache.proofs.Carrying.{proper-now}

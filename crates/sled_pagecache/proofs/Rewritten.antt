@@ -1,13 +1,16 @@
 -- What rewriting a cache answers, and what it leaves of the cache.
-use Rattle.sled_pagecache.proofs.Names.{◌≡◌, ◌≤◌, ◌⊎◌, ℕ, true, false, List, [], length, Result, Ok, Err, refl, sym, ◌∙◌, ap, subst, inl, inr, ⊎_elim, arith, AllZip, Bool, Cache, Chain, Config, Error, Ghosts, IfErr, IfOk, IsKept, IsOfLog, IsWhole, LogFull, Page, Recency, Refusal, RefusesPull, StickyLog, Went, chain_at, effect_of_entry, error_of, most_pages, now, refusal_in, resident_in, view, AreOwn}
-use Rattle.sled_base.specs.declared.types.Error.TheVariants.{Unsupported}
+use Rattle.sled_pagecache.proofs.Names.{◌≡◌, ◌≤◌, ◌⊎◌, ℕ, true, false, List, [], length, Result, Ok, Err, refl, ◌∙◌, subst, inl, inr, ⊎_elim, arith, AllZip, Bool, Cache, Chain, Config, Error, Ghosts, IfErr, IfOk, ActOver, Amplified, IsDoneInEach, IsKept, IsOfLog, Logged, Outcome, Represents, SpaceAmplification, State, Steps, Write, cases_Bool, is_write_fault, IsWhole, LogFull, Page, Recency, Refusal, RefusesPull, StickyLog, Went, chain_at, effect_of_entry, error_of, most_pages, now, refusal_in, resident_in, view, AreOwn}
+use Rattle.sled_base.specs.declared.types.Error.TheVariants.{Io, Unsupported}
 use Rattle.sled_base.specs.declared.types.Refusal.TheVariants as refusals
+use Rattle.sled_pagecache.proofs.CacheSteps.{steps-stuck, steps-went}
+use Rattle.sled_pagecache.proofs.Changing.{leads-unread}
+use Rattle.sled_pagecache.proofs.Held.{unread}
 use Rattle.sled_pagecache.proofs.Measuring.{damage-told, read-all-of, read-part-of, whole-read}
 use Rattle.sled_pagecache.proofs.Rewriting.{is-rewritten, ran-full}
 use Rattle.sled_pagecache.specs.Damage.{ReportsSomeWrong}
 use Rattle.sled_pagecache.specs.Inside.Rewriting.{AreCopied, Copies}
 use Rattle.sled_pagecache.specs.Memory.{HasRead, messages_away}
-use Rattle.sled_pagecache.specs.Rewriting.{IsFullFor, IsRewritten}
+use Rattle.sled_pagecache.specs.Rewriting.{IsFullFor, IsRewritten, StaysInState}
 
 -- the other log, with the error of a refusal
 abbrev pub answer_with : {M : Type 0} → M → Result (Unit {0}) Refusal → Result M (Error × M)
@@ -31,7 +34,7 @@ module _ {L M : Type 0} (g : Ghosts L) (h : Ghosts M) (before after : StickyLog 
   chains = now effect_of_entry (g.state before.log)
 
   -- the log of the cache was read at most
-  copies-went : (result : Result (Unit {0}) Refusal) → Copies g h table before after copy then result → Went g before after [] × (g.tells → after.fault ≡ false → now effect_of_entry (g.state after.log) ≡ now effect_of_entry (g.state before.log))
+  pub copies-went : (result : Result (Unit {0}) Refusal) → Copies g h table before after copy then result → Went g before after [] × (g.tells → after.fault ≡ false → now effect_of_entry (g.state after.log) ≡ now effect_of_entry (g.state before.log))
   copies-went (Ok done) did = (did.0.went, did.0.same)
   copies-went (Err refusal) did = ⊎_elim (λ unread. (unread.0.went, unread.0.same)) (λ unwritten. (unwritten.2.went, unwritten.2.same)) did
 
@@ -70,3 +73,40 @@ module _ {L M : Type 0} (g : Ghosts L) (h : Ghosts M) (before after : StickyLog 
         (⊎_elim
         (λ unread. record { whole = tt; part = (read-part-of {T = Unit {0}} {U = Unit {0}} g.counts chains table before.log after.log kept refusal error unread.0.reads).part })
         (λ unwritten. record { whole = tt; part = (read-part-of {T = Unit {0}} {U = Unit {0}} g.counts chains table before.log after.log kept refusal error (record { whole = tt; part = (unwritten.0, unwritten.1, unwritten.2.reads.whole) })).part }) did)
+
+-- ---- the cache stays in its state
+
+module _ {L : Type 0} (g : Ghosts L) where
+  done-weaker : {Does Is : State → Outcome → Type 0} (old new : Cache L) → IsDoneInEach g Does old new → ((held : Logged) (s : State) → Represents g old held s → (out : Outcome) → Does s out → Is s out) → IsDoneInEach g Is old new
+  done-weaker old new done is = record {
+    opening = done.opening;
+    from_each = λ held s in_state.
+        let one = done.from_each held s in_state in
+        record { out = one.out; step = is held s in_state one.out one.step; held_then = one.held_then; is = one.is; added = one.added; crash = one.crash; stuck = one.stuck };
+  }
+
+  -- with a write fault kept it isn't called
+  pub stays-stuck : (cache : Cache L) → cache.fault ≡ true → StaysInState g cache cache
+  stays-stuck cache kept =
+      done-weaker cache cache (steps-stuck g cache SpaceAmplification (Amplified (Err (Io Write))) kept (λ s stuck. rw stuck (refl, refl)))
+      (λ held s is out step. let same = rw (is.fault ∙ kept) at step in grind (arith, same.1, is.fault))
+
+  module _ (next : ℕ) (config : Config) (recovered : Bool) (lru : Recency) (before after : StickyLog L) (table : List Page) (ready : before.fault ≡ false) (went : Went g before after []) where
+    abbrev over : StickyLog L → Cache L
+    over sticky_log = view next config recovered lru sticky_log table
+
+    -- as a measure that is refused leaves it
+    refused-as : (refusal : Refusal) → (let err : Result (Unit {0}) Refusal = Err refusal in after.fault ≡ is_write_fault err)
+        → ((s : State) → s.fault ≡ false → ActOver g (over before) s SpaceAmplification (Amplified (Err (error_of refusal))) (unread s refusal))
+        → Steps g (over before) SpaceAmplification (Amplified (Err (error_of refusal))) (over after)
+    refused-as refusal fault step =
+        let answer = Amplified (Err (error_of refusal)) in
+        steps-went g (over before) (over after) before after SpaceAmplification answer [] (record { config = refl; recovered = refl }) refl refl refl ready went
+        (λ held s is clear. leads-unread g (over before) (over after) held s is clear SpaceAmplification answer refl refusal (step s clear) refl fault)
+
+    pub stays-went : StaysInState g (over before) (over after)
+    stays-went =
+        ⊎_elim
+        (λ kept. done-weaker (over before) (over after) (refused-as (refusals.Io Write) kept (λ s clear. rw clear refl)) (λ held s is out step. let done = rw (is.fault ∙ ready) at step in grind (arith, done, kept)))
+        (λ free. done-weaker (over before) (over after) (refused-as refusals.OutOfMemory free (λ s clear. rw clear refl)) (λ held s is out step. let done = rw (is.fault ∙ ready) at step in grind (arith, done, free, is.fault, ready)))
+        (cases_Bool after.fault)

@@ -1,6 +1,6 @@
 -- Why every run of openings shows pages after a prefix of the changes, which holds all that was flushed, and gives no generated id twice:
 -- what opens over a log, however a cache over it ended, begins above every id that was answered.
-use Rattle.sled_pagecache.proofs.Names.{Counter, Roots, drop_all, seen_event, map, message_in, Answer, Cache, Call, Config, Content, Err, Error, Generated, Ghosts, Represents, IsLogged, IsStep, List, Logged, Messages, Ok, Result, Started, State, Outcome, [], ◌∷◌, ◌++◌, ap, append-nil, append_assoc, arith, changes_of_start, false, inl, inr, IfErr, IsErrAnd, stable_contents, opened_state, refl, subst, sym, true, unplaced_state, ℕ, ◌≡◌, ◌≢◌, ◌≤◌, ◌+◌, ◌⊎◌, ⊎_elim, ◌∙◌, true≢false, Update, Event, StepOver, Adds, IsPrefix, IsPrefix-all, IsPrefix-none, Crashed, CrashedIn, Ending, HandedOn, Rewritten, IsEmpty, IsRun, Lasted, Leaves, LeavesUnopened, Opening, HoldsCrash, KeepIntervals, OnlyNow, left-now, AreMade, AreSteps, CoversId, IsCovered, IsMade, ReportsBytes, Opens, MayBeOpened, Unsupported, Write, has_own, cases_Bool, cases_lt, contents_after, contents_of, id_in, ids_in, ids_of, length, length-drop, AddsEvents-then, CrashKeeps-added, CrashKeeps-more, IsFair-none, contents_after-append, log_after, step-stuck}
+use Rattle.sled_pagecache.proofs.Names.{Counter, Roots, drop_all, seen_event, map, message_in, Answer, Cache, Call, Config, Content, Err, Error, Generated, Ghosts, Represents, IsLogged, IsStep, List, Logged, Messages, Ok, Result, Started, State, Outcome, [], ◌∷◌, ◌++◌, ap, append-nil, append_assoc, arith, changes_of_start, false, inl, inr, IfErr, IsErrAnd, stable_contents, opened_state, refl, subst, sym, true, unplaced_state, ℕ, ◌≡◌, ◌≢◌, ◌≤◌, ◌+◌, ◌⊎◌, ⊎_elim, ◌∙◌, true≢false, Update, Event, StepOver, Adds, IsPrefix, IsPrefix-all, IsPrefix-none, Crashed, CrashedIn, CrashedRewriting, Ending, HandedOn, Rewritten, IsEmpty, IsRun, Lasted, Leaves, LeavesUnopened, Opening, HoldsCrash, KeepIntervals, OnlyNow, left-now, AreMade, AreSteps, CoversId, IsCovered, IsMade, ReportsBytes, Opens, MayBeOpened, Unsupported, Write, has_own, cases_Bool, cases_lt, contents_after, contents_of, id_in, ids_in, ids_of, length, length-drop, AddsEvents-then, CrashKeeps-added, CrashKeeps-more, IsFair-none, contents_after-append, log_after, step-stuck}
 use Rattle.sled_pagecache.specs.Openings.{Refused}
 use Rattle.sled_pagecache.proofs.Carrying.{proper-now}
 use Rattle.sled_pagecache.proofs.Counting.{BeginsAbove, CountsTo, IsSafe, Rises, first-at, now-added, rises-over, rises-parts, safe-added, safe-crash, start-counts, start-rises}
@@ -330,6 +330,16 @@ module _ {L : Type 0} (g : Ghosts L) (tells : g.tells)
         let one = call-goes h interval bound last new t call answer stands made in
         let (after, crashes, is) = crash-found (with_begun one.out.changes h) interval bound one.inside new.log left (crash-since g new.log left one.inside (g.moment last.log) one.later crash) one.left in
         (after, (one.out, one.step, crashes), is)
+    ends CrashedRewriting (then, stays, crash) =
+        let one = stays.from_each stands.held t stands.is in
+        let none : one.out.changes ≡ [] = ap (λ (o : Outcome). o.changes) one.step in
+        ⊎_elim
+        (λ on. crash-found h interval bound (g.moment last.log) then.log left crash
+        (λ pages since.
+        subst (λ (l : List (Event Update)). SurviveAs (record h { begun = l }) interval bound pages) (append-nil h.begun)
+        (survive h interval bound stands.held on.told [] [] (IsPrefix-none []) tt pages (subst (λ (l : List (Event Update)). IsLeft stands.held l pages) none ((one.crash on.clear).each pages since)))))
+        (λ stuck. crash-found h interval bound stuck.since then.log left (crash-since g then.log left stuck.since (g.moment last.log) stuck.earlier crash)
+        (λ pages since. stuck.left pages (rw (one.stuck stuck.kept) at since))) stands.so
     ends HandedOn (clear, same) =
         ⊎_elim
         (λ on. (h, (on.clear, refl), subst (IsFound h interval bound) (sym same) (record { held = stands.held; logged = (stands.is.known on.clear).logged; told = on.told })))

@@ -8,7 +8,7 @@ use Rattle.sled_log.specs.LogState.{unplaced_state}
 use Rattle.sled_log.specs.declared.log.Log.{Ghosts}
 use Rattle.sled_pagecache.specs.Cache.{Cache}
 use Rattle.sled_pagecache.specs.Reopening.{HoldsCrash, Started}
-use Rattle.sled_pagecache.specs.Rewriting.{IsRewritten}
+use Rattle.sled_pagecache.specs.Rewriting.{IsRewritten, StaysInState}
 use Rattle.sled_pagecache.specs.Rows.{IsMade, AreMade}
 use Rattle.sled_pagecache.specs.Opening.{MayBeOpened, log_after, stable_state}
 use Rattle.sled_pagecache.specs.declared.pagecache.handles.call.Answer.{Answer}
@@ -16,11 +16,12 @@ use Rattle.sled_pagecache.specs.declared.pagecache.handles.call.Answer.TheVarian
 use Rattle.sled_pagecache.specs.declared.pagecache.handles.call.Call.{Call}
 use Rattle.sled_pagecache.specs.declared.pagecache.handles.config.Config.{Config}
 
--- How an opening ends: by a crash between two calls, by a crash inside a call, which would have been answered so, by handing its log on,
--- or by handing on another log, which it was rewritten into.
+-- How an opening ends: by a crash between two calls, by a crash inside a call, which would have been answered so, by a crash while it was
+-- rewritten into another log, by handing its log on, or by handing on another log, which it was rewritten into.
 pub data Ending : Type 0 where
   Crashed : Ending
   CrashedIn : (call : Call) (answer : Answer) → Ending
+  CrashedRewriting : Ending
   HandedOn : Ending
   Rewritten : Ending
 
@@ -44,11 +45,12 @@ module _ {L : Type 0} (g : Ghosts L) where
       HoldsCrash g (log_after result) (g.moment found) left
       ⊎ IsErrAnd result (λ e. (e.0 ≢ Io Write) × (left ≡ e.1))
 
-  -- What an opening leaves whose cache was that behind the calls that it answered. A crash inside a call is one at any moment since
-  -- the call's start.
+  -- What an opening leaves whose cache was that behind the calls that it answered. A crash inside a call, or while it was rewritten, is one
+  -- at any moment since the call's start.
   abbrev pub Leaves : Cache L → Ending → L → Type 0
   Leaves last Crashed left = HoldsCrash g last.log (g.moment last.log) left
   Leaves last (CrashedIn call answer) left = (then : Cache L) × IsMade g last call answer then × HoldsCrash g then.log (g.moment last.log) left
+  Leaves last CrashedRewriting left = (then : Cache L) × StaysInState g last then × HoldsCrash g then.log (g.moment last.log) left
   Leaves last HandedOn left = (last.fault ≡ false) × (left ≡ last.log)
   Leaves last Rewritten left = (last.fault ≡ false) × IsRewritten g g last left
 

@@ -16,7 +16,7 @@ use Rattle.sled_log.specs.LogState.{IsPrefix}
 use Rattle.sled_log.specs.declared.log.Log.{Ghosts}
 use Rattle.sled_pagecache.specs.Cache.{Cache}
 use Rattle.sled_pagecache.specs.Calls.{StepOver}
-use Rattle.sled_pagecache.specs.Openings.{Ending, Crashed, CrashedIn, HandedOn, Rewritten, Opening, Refused, Lasted}
+use Rattle.sled_pagecache.specs.Openings.{Ending, Crashed, CrashedIn, CrashedRewriting, HandedOn, Rewritten, Opening, Refused, Lasted}
 use Rattle.sled_pagecache.specs.Rows.{AreSteps, IsInState, IsMade}
 use Rattle.sled_pagecache.specs.State.{State, contents_of}
 use Rattle.sled_pagecache.specs.declared.pagecache.handles.config.Config.{Config}
@@ -106,11 +106,12 @@ module _ {L : Type 0} (g : Ghosts L) where
     pub config_is : cache.config ≡ config
     pub recovered : cache.recovered ≡ has_own (pages_by_now h)
 
-  -- How an opening ends: a crash inside a call may leave what the call began, and a log is handed on only where no write failed. One that the
-  -- cache was rewritten into holds the pages by now, all of them flushed.
+  -- How an opening ends: a crash inside a call may leave what the call began, but a rewriting begins nothing; and a log is handed on only
+  -- where no write failed. One that the cache was rewritten into holds the pages by now, all of them flushed.
   abbrev pub Ends : Cache L → State → History → Ending → History → Type 0
   Ends last t h Crashed after = Crashes h after
   Ends last t h (CrashedIn call answer) after = (out : Outcome) × StepOver g last t call answer out × Crashes (with_begun out.changes h) after
+  Ends last t h CrashedRewriting after = Crashes h after
   Ends last t h HandedOn after = (t.fault ≡ false) × (after ≡ h)
   Ends last t h Rewritten after = (t.fault ≡ false) × (after ≡ history_from (pages_by_now h))
 

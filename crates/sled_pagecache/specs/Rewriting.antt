@@ -1,5 +1,5 @@
 -- What rewriting a cache into another log makes of both: the other log holds the same pages, each by one message, and the cache is as it was.
-use Rattle.std.specs.Prelude.{◌≡◌, ◌⊎◌, ◌+◌, ℕ, true, false, List, [], ◌∷◌, ◌++◌, map, Result, IfErr}
+use Rattle.std.specs.Prelude.{◌≡◌, ◌⊎◌, ◌+◌, ℕ, true, List, [], ◌∷◌, ◌++◌, map, Result, IfErr}
 use Rattle.sled_base.specs.declared.types.Device.TheVariants.{Read, Write}
 use Rattle.sled_base.specs.declared.types.Error.{Error}
 use Rattle.sled_base.specs.declared.types.Error.TheVariants.{Io}
@@ -14,8 +14,10 @@ use Rattle.sled_log.specs.Reading.{message_of}
 use Rattle.sled_log.specs.declared.log.Log.{Ghosts}
 use Rattle.sled_node.specs.Node.{empty_leaf}
 use Rattle.sled_pagecache.specs.Cache.{Cache}
+use Rattle.sled_pagecache.specs.Calls.{IsDoneInEach}
 use Rattle.sled_pagecache.specs.Logged.{Logged, IsLogged, now}
 use Rattle.sled_pagecache.specs.Opening.{LacksRoomFor, stable_state, stable_contents}
+use Rattle.sled_pagecache.specs.Step.{outcome}
 
 -- the page is this one message, which puts the content there
 abbrev pub alone : Content → Messages
@@ -37,6 +39,10 @@ changes_of_pages pid (content ∷ contents) = changes_of_page pid content ++ cha
 -- the messages that are written
 abbrev pub messages_of_pages : ℕ → List Content → List (Event Message)
 messages_of_pages pid contents = seen_events message_of (changes_of_pages pid contents)
+
+-- In whatever state the cache is, it stays in it, but for a write fault that came, and writes nothing.
+abbrev pub StaysInState : {L : Type 0} → Ghosts L → Cache L → Cache L → Type 0
+StaysInState g old new = IsDoneInEach g (λ s out. out ≡ outcome (record s { fault = new.fault }) []) old new
 
 module _ {M : Type 0} (h : Ghosts M) where
   -- The log had no room for the next of the messages, at the moment when it held those before it. Where there were none, it had none as it was

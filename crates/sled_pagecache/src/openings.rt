@@ -10,14 +10,15 @@ ghost use Rattle.sled_pagecache.specs.Prefixes.{ShowPrefixes};
 use sled_disk::{Disk, DiskLog, MemDisk};
 use sled_log::Log;
 
-/// From an empty log, over every list of openings, calls, crashes at any moment and handed-on logs: each opening's cache is what is
-/// opened of the pages after a prefix of the changes that were begun before, which holds all that was flushed and splits no batch, and
-/// its answers are those of the machine from there.
+/// From an empty log, over every list of openings, calls, crashes at any moment, and logs handed on or rewritten: each opening's cache is
+/// what is opened of the pages after a prefix of the changes that were begun before, which holds all that was flushed and splits no batch,
+/// and its answers are those of the machine from there.
 ///
 /// Each crash keeps such a prefix of what came since the one before, and what comes then is added to that. A flush that was made flushes all
 /// that came, and so does an id that wrote a counter. A cache is opened over what the
-/// time before left: what a crash left, inside a call or inside `start` too, and after a write fault; the log that `into_log` handed on,
-/// where no write failed; or the log that a refused `start` gave back. Nothing but an allocation, the device, the settings, or a log that
+/// time before left: what a crash left, inside a call, inside `start` or inside `rewrite_into` too, and after a write fault; the log that
+/// `into_log` handed on, where no write failed; another log, that `rewrite_into` answered, which holds the pages by then, all of them flushed;
+/// or the log that a refused `start` gave back. Nothing but an allocation, the device, the settings, or a log that
 /// has no room for a missing system page refuses an opening. That is all that is asked, of any log that tells its bytes.
 pub fn every_opening_shows_a_prefix<L: Log>()
     ensures { L.tells → (log : L) (openings : List (Opening L)) → IsEmpty L.Log log
@@ -36,7 +37,7 @@ pub fn every_opening_of_a_disk_shows_a_prefix()
 }
 
 /// From an empty log, over every list of openings as above in which no config has a shorter interval of ids than one before it: each
-/// generated id is above every id that was answered before it. So none comes twice, whatever crashes come between.
+/// generated id is above every id that was answered before it. So none comes twice, whatever crashes and rewritten logs come between.
 pub fn ids_are_given_once<L: Log>()
     ensures { L.tells → (log : L) (openings : List (Opening L)) → IsEmpty L.Log log
         → IsRun L.Log log openings → KeepIntervals 0 openings → AreRising (ids_of openings) }

@@ -1,5 +1,5 @@
 -- The copying of the pages of a table to another log.
-use Rattle.std.specs.Prelude.{◌≡◌, ◌⊎◌, ◌≤◌, ℕ, List, [], length, take, Option, None, Some, Result, Ok, Err, IfErr, IfSome}
+use Rattle.std.specs.Prelude.{◌≡◌, ◌⊎◌, ◌≤◌, ℕ, List, [], length, take, Option, None, Some, Result, Ok, Err, IfErr}
 use Rattle.std.specs.List.{AllByRecursion, AllZip, sum_by}
 use Rattle.sled_base.specs.declared.types.Refusal.{Refusal}
 use Rattle.sled_log.specs.Contents.{Content, Put}

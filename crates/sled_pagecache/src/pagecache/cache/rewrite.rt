@@ -12,7 +12,7 @@ ghost use Rattle.sled_pagecache.specs.Answers.{HasNoName};
 ghost use Rattle.sled_pagecache.specs.Cache.{chain_at};
 ghost use Rattle.sled_pagecache.specs.Damage.{LeavesPages, ReportsSomeWrong};
 ghost use Rattle.sled_pagecache.specs.Memory.{HasRead, IsBounded, KeepsMemory, messages_away};
-ghost use Rattle.sled_pagecache.specs.Rewriting.{IsRewritten, IsFullFor, IsBlamedRewriting};
+ghost use Rattle.sled_pagecache.specs.Rewriting.{IsRewritten, IsFullFor, IsBlamedRewriting, StaysInState};
 
 use super::PageCache;
 use crate::pagecache::write::rewriting::copy_pages;
@@ -41,6 +41,7 @@ impl<L: Log> PageCache<L> {
         ensures in_batch { self.old.fault ≡ false → self.old.batch ≡ true
             → (result ≡ Err (Unsupported BatchOpen, into)) × (self.new ≡ self.old) }
         ensures rewritten { IfOk result (IsRewritten L.Log M.Log self.old) }
+        ensures step { StaysInState L.Log self.old self.new }
         ensures left { self.old.fault ≡ false → LeavesPages L.Log self.old self.new }
         ensures same { KeepsMemory self.old self.new }
         ensures bounded { IsBounded L.Log self.new }

@@ -1,8 +1,24 @@
-use Rattle.sled_pagecache.proofs.Names.{◌≡◌, arith, refl, AllZip-long, IsKept, view}
+use Rattle.sled_pagecache.proofs.Names.{◌≡◌, arith, refl, AllZip-long, IsKept, Went-none, view}
 use Rattle.sled_pagecache.proofs.Evicting.{kept-settled}
-use Rattle.sled_pagecache.proofs.Rewritten.{answer_with, copies-whole, full-by, reads-by, refused-by, rewritten-by}
+use Rattle.sled_pagecache.proofs.Rewritten.{answer_with, copies-went, copies-whole, full-by, reads-by, refused-by, rewritten-by, stays-stuck, stays-went}
 use Rattle.sled_pagecache.proofs.pagecache.cache.PageCache.rewrite_into.Goals as goal
 use Rattle.sled_pagecache.proofs.pagecache.cache.PageCache.rewrite_into.Goals.{in-Ok, in-Err}
+
+pub returns-then-self-clause-step : goal.returns-then-self-clause-step
+returns-then-self-clause-step g c = rw (← c.self.view_is) (stays-stuck g.L.Log _ c.if-self.true)
+
+pub returns-then-self-2-clause-step : goal.returns-then-self-2-clause-step
+returns-then-self-2-clause-step g c =
+    let inside = c.self.inside in
+    rw (← c.self.view_is)
+    (stays-went g.L.Log inside.next inside.config inside.recovered inside.accesses.lru inside.sticky_log inside.sticky_log inside.pages.pages c.if-self.false (Went-none g.L.Log inside.sticky_log (c.self.invariant.whole.consistent.beside c.if-self.false).usable (g.met.L.Log.only_now inside.sticky_log.log)))
+
+pub returns-clause-step : goal.returns-clause-step
+returns-clause-step g c =
+    let inside = c.self.inside in
+    rw (← c.self.view_is)
+    (stays-went g.L.Log inside.next inside.config inside.recovered inside.accesses.lru inside.sticky_log c.copy_pages.new.sticky_log inside.pages.pages c.if-self.false
+    (copies-went g.L.Log g.M.Log inside.sticky_log c.copy_pages.new.sticky_log inside.pages.pages _ c.copy_pages.new.copy c.copy_pages.result c.copy_pages.ensures).0)
 
 pub invariant_of-self : goal.invariant_of-self
 invariant_of-self g c =

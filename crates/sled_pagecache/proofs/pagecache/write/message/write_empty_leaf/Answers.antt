@@ -1,4 +1,4 @@
-use Rattle.sled_pagecache.proofs.Names.{Node, Put, subst, written-update}
+use Rattle.sled_pagecache.proofs.Names.{Node, Put, written-update}
 use Rattle.sled_pagecache.proofs.pagecache.write.message.write_empty_leaf.Goals as goal
 
 pub write-requires-clause-can_write : goal.write-requires-clause-can_write
