@@ -17,7 +17,7 @@ use Rattle.sled_log.specs.Events.{Event, Change, Pin, Seal, Cancel}
 use Rattle.sled_log.specs.Inside.Laws.{chains_after-append}
 use Rattle.sled_log.specs.LogState.{now}
 use Rattle.sled_log.specs.Messages.{Entry, Chain, effect_of_entry}
-use Rattle.sled_log.specs.Pages.{IsAt, IsRead}
+use Rattle.sled_log.specs.Pages.{IsAt, IsReadAs}
 use Rattle.sled_disk.specs.declared.head.Head.{Head}
 use Rattle.sled_disk.specs.declared.mark.Mark.{Mark}
 use Rattle.sled_disk.specs.Format.{opening, Record, size, body, number, frames_bytes, event_by, event_at, events_at, frames_events, IsBytes}
@@ -188,13 +188,13 @@ module _ (seen : List ℕ) (gate : ℕ) (ms : List Mark) (buffer : List ℕ) (us
           ∙ drop-drop k (gate + 1) whole ∙ ap (λ n. drop n whole) (omega (arith, lt)))
 
       -- what is read of it is each entry at that place
-      pub read-is : (lsn : ℤ) (found : MessageKind × Vec ℕ) → found.0 ≡ head.kind → found.1.items ≡ take head.len (drop (head.place + 17) whole)
-          → All (λ entry. IsAt lsn (Inline at) entry → IsRead entry found) (slice_index_or (now effect_of_entry (state_in seen gate ms buffer usable)) pid [])
-      read-is lsn answer kind payload =
+      pub read-is : (lsn : ℤ) (kind : MessageKind) (payload : List ℕ) → kind ≡ head.kind → payload ≡ take head.len (drop (head.place + 17) whole)
+          → All (λ entry. IsAt lsn (Inline at) entry → IsReadAs entry kind payload) (slice_index_or (now effect_of_entry (state_in seen gate ms buffer usable)) pid [])
+      read-is lsn kind payload k p =
           let w = is-written in
           let place : head.place ≡ at = found.3 in
           let pointer : DiskPtr = Inline at in
-          subst (λ (l : List Entry). All (λ entry. IsAt lsn (Inline at) entry → IsRead entry answer) l) chain-is
-          (All-from_recursion _ _ (entries-read whole chain lsn pointer answer written
-          (kind ∙ sym w.kind ∙ ap (λ n. kind_of (get_or (drop n whole) 0 0)) place)
-          (payload ∙ ap (λ n. take n (drop (head.place + 17) whole)) (sym w.len) ∙ ap (λ n. take (number (take 8 (drop (n + 9) whole))) (drop (n + 17) whole)) place)))
+          subst (λ (l : List Entry). All (λ entry. IsAt lsn (Inline at) entry → IsReadAs entry kind payload) l) chain-is
+          (All-from_recursion _ _ (entries-read whole chain lsn pointer kind payload written
+          (k ∙ sym w.kind ∙ ap (λ n. kind_of (get_or (drop n whole) 0 0)) place)
+          (p ∙ ap (λ n. take n (drop (head.place + 17) whole)) (sym w.len) ∙ ap (λ n. take (number (take 8 (drop (n + 9) whole))) (drop (n + 17) whole)) place)))

@@ -17,7 +17,7 @@ use Rattle.sled_base.specs.declared.kinds.MessageKind.{MessageKind}
 use Rattle.sled_base.specs.declared.types.DiskPtr.{DiskPtr}
 use Rattle.sled_log.specs.Events.{Event}
 use Rattle.sled_log.specs.Messages.{Entry}
-use Rattle.sled_log.specs.Pages.{IsAt, IsRead}
+use Rattle.sled_log.specs.Pages.{IsAt, IsReadAs}
 use Rattle.sled_disk.specs.declared.head.Head.{Head}
 use Rattle.sled_disk.specs.Format.{opening, frames_good, Record, Frame, Fits, IsFrame, number, number_bytes, size, record_bytes, body, frames_bytes, event_by, event_at, events_at, frames_events, IsBytes}
 use Rattle.sled_disk.specs.Opened.{AreRead, AreHeads, IsPlaced, IsWrittenIn, entries_in}
@@ -106,18 +106,18 @@ head-of bytes (head ∷ chain) lsn pointer zero x lt is at w p =
 head-of bytes (head ∷ chain) lsn pointer (suc k) x lt is at w p = head-of bytes chain lsn pointer k x (omega (arith, lt)) is at w.1 p.1
 
 -- what is read at the place of a head is its entry
-pub entries-read : (bytes : List ℕ) (chain : List Head) (lsn : ℤ) (pointer : DiskPtr) (found : MessageKind × Vec ℕ) → AllByRecursion (IsWrittenIn bytes) chain
-    → found.0 ≡ kind_of (get_or (drop (offset_of pointer) bytes) 0 0) → found.1.items ≡ take (number (take 8 (drop (offset_of pointer + 9) bytes))) (drop (offset_of pointer + 17) bytes)
-    → AllByRecursion (λ entry. IsAt lsn pointer entry → IsRead entry found) (map (entry_in bytes) chain)
-entries-read bytes [] lsn pointer found w kind payload = tt
-entries-read bytes (head ∷ chain) lsn pointer found w kind payload =
+pub entries-read : (bytes : List ℕ) (chain : List Head) (lsn : ℤ) (pointer : DiskPtr) (kind : MessageKind) (payload : List ℕ) → AllByRecursion (IsWrittenIn bytes) chain
+    → kind ≡ kind_of (get_or (drop (offset_of pointer) bytes) 0 0) → payload ≡ take (number (take 8 (drop (offset_of pointer + 9) bytes))) (drop (offset_of pointer + 17) bytes)
+    → AllByRecursion (λ entry. IsAt lsn pointer entry → IsReadAs entry kind payload) (map (entry_in bytes) chain)
+entries-read bytes [] lsn pointer kind payload w k p = tt
+entries-read bytes (head ∷ chain) lsn pointer kind payload w k p =
     let one = w.0 in (
       (λ at.
           let place : offset_of pointer ≡ head.place = ap offset_of (sym at.1) in (
-            kind ∙ ap (λ n. kind_of (get_or (drop n bytes) 0 0)) place ∙ one.kind,
-            payload ∙ ap (λ n. take (number (take 8 (drop (n + 9) bytes))) (drop (n + 17) bytes)) place ∙ ap (λ n. take n (drop (head.place + 17) bytes)) one.len,
+            k ∙ ap (λ n. kind_of (get_or (drop n bytes) 0 0)) place ∙ one.kind,
+            p ∙ ap (λ n. take (number (take 8 (drop (n + 9) bytes))) (drop (n + 17) bytes)) place ∙ ap (λ n. take n (drop (head.place + 17) bytes)) one.len,
           )),
-      entries-read bytes chain lsn pointer found w.1 kind payload,
+      entries-read bytes chain lsn pointer kind payload w.1 k p,
     )
 
 placed-of : (chains : List (List Head)) → AllByRecursion AreHeads chains → AllByRecursion (AllByRecursion IsPlaced) chains
@@ -138,14 +138,3 @@ module _ (bytes : List ℕ) (gate : ℕ) (heads : List (List Head)) (fits : IsBy
       by (k, x, lt, is, at) =
           head-of bytes (slice_index_or heads pid []) lsn pointer k x lt is at written
           (all-get (AllByRecursion IsPlaced) pid heads [] (placed-of heads (read-heads bytes gate heads read)) tt)
-
-  pub known-read : (found : MessageKind × Vec ℕ) → found.0 ≡ kind_of (get_or (drop (offset_of pointer) bytes) 0 0) → found.1.items ≡ take (number (take 8 (drop (offset_of pointer + 9) bytes))) (drop (offset_of pointer + 17) bytes)
-      → All (λ entry. IsAt lsn pointer entry → IsRead entry found) (slice_index_or (entries_in bytes heads) pid [])
-  known-read found kind payload = subst (λ (l : List Entry). All (λ entry. IsAt lsn pointer entry → IsRead entry found) l) (sym chain-is) (All-from_recursion _ _ (entries-read bytes (slice_index_or heads pid []) lsn pointer found written kind payload))
-
-  pub known-read-on : (place : ℕ) → place ≡ offset_of pointer → (result : Result (MessageKind × Vec ℕ) LogError) → IfOk result (λ found. found.0 ≡ kind_of (get_or (drop place bytes) 0 0))
-      → IfOk result (λ found. found.1.items ≡ take (number (take 8 (drop (place + 9) bytes))) (drop (place + 17) bytes))
-      → IfOk result (λ found. All (λ entry. IsAt lsn pointer entry → IsRead entry found) (slice_index_or (entries_in bytes heads) pid []))
-  known-read-on place is (Ok found) kind payload =
-      known-read found (subst (λ (n : ℕ). found.0 ≡ kind_of (get_or (drop n bytes) 0 0)) is kind) (subst (λ (n : ℕ). found.1.items ≡ take (number (take 8 (drop (n + 9) bytes))) (drop (n + 17) bytes)) is payload)
-  known-read-on place is (Err e) kind payload = tt

@@ -213,13 +213,12 @@ impl NextFrame {
     }
 
     // The payload of a record that begins so many bytes from the front of the buffer.
-    pub(crate) fn payload(&self, alloc: Global, at: u64, len: u64) -> Result<Vec<u8>, AllocError>
+    pub(crate) fn payload(&self, at: u64, len: u64) -> &[u8]
         requires { at + 17 + len ≤ length self.now.buffer.items }
-        ensures { IfOk result
-            (λ bytes. bytes.items ≡ take len (drop (at + 17) self.now.buffer.items)) }
+        ensures { result.now ≡ take len (drop (at + 17) self.now.buffer.items) }
     {
         let from = at as usize + 17;
-        self.buffer[from..from + len as usize].to_vec(alloc)
+        &self.buffer[from..from + len as usize]
     }
 
     // Writes the pending records as a frame behind the present gate, which is closed, and opens the gate once they are durable.

@@ -1,5 +1,5 @@
 -- Each entry of a chain is kept by an item.
-use Rattle.sled_log.proofs.Names.{◌≡◌, ◌<◌, ℕ, ℤ, zero, suc, Option, Some, IsSomeAnd, List, [], ◌∷◌, length, map, refl, sym, ◌∙◌, ap, subst, slice_index_or, All-from_recursion, Vec, slice_get, AllByRecursion, MessageKind, DiskPtr, chains_after, Event, entry_of, event_of_mark, event_of, state_at, IsInOrder, Entry, Chain, effect_of_entry, IsAt, IsRead, now, KeptChange, LogItem, Mark}
+use Rattle.sled_log.proofs.Names.{◌≡◌, ◌<◌, ℕ, ℤ, zero, suc, Some, List, [], ◌∷◌, length, map, refl, sym, ◌∙◌, ap, subst, slice_index_or, All, Any, All-from_recursion, slice_get, AllByRecursion, DiskPtr, chains_after, Event, entry_of, event_of_mark, event_of, kept_in, state_of, state_at, IsInOrder, Entry, Chain, effect_of_entry, IsAt, now, KeptChange, LogItem, Mark, MemLog}
 use Rattle.sled_log.proofs.ChainLaws.{Says, AllIn, chains-all, all-get}
 use Rattle.sled_log.specs.MemLog.Kept as kept
 use Rattle.sled_log.proofs.Moments.{now_is}
@@ -29,11 +29,19 @@ now-kept clock stable items order pid k d =
     let all : AllIn effect_of_entry (IsKept items) (now effect_of_entry (state_at clock items)) = subst (AllIn effect_of_entry (IsKept items)) (sym (now_is clock stable items order)) (all-kept items) in
     All-from_recursion (IsKept items) (slice_index_or (now effect_of_entry (state_at clock items)) pid []) (all-get (AllByRecursion (IsKept items)) pid (now effect_of_entry (state_at clock items)) [] all tt) k d
 
--- a search finds the message that a pointer leads to
-abbrev pub Finds : List LogItem → DiskPtr → Option (MessageKind × Vec ℕ) → Type 0
-Finds items pointer found = (i : ℕ) (item : LogItem) (change : KeptChange) → slice_get items i ≡ Some item → item.mark ≡ kept.Change change → change.pointer ≡ pointer → IsSomeAnd found (IsRead (entry_of change))
+-- what holds of each message that a pointer leads to
+abbrev pub Leads : List LogItem → DiskPtr → (Entry → Type 0) → Type 0
+Leads items pointer Is = (i : ℕ) (item : LogItem) (change : KeptChange) → slice_get items i ≡ Some item → item.mark ≡ kept.Change change → change.pointer ≡ pointer → Is (entry_of change)
 
--- so it finds each entry that is kept
-pub finds-entry : (items : List LogItem) (found : Option (MessageKind × Vec ℕ)) (lsn : ℤ) (pointer : DiskPtr) (entry : Entry) → Finds items pointer found → IsKept items entry → IsAt lsn pointer entry → IsSomeAnd found (IsRead entry)
-finds-entry items found lsn pointer entry finds (i, item, change, is, mark, kept) at =
-    subst (λ (e : Entry). IsSomeAnd found (IsRead e)) kept (finds i item change is mark (ap (λ (e : Entry). e.place.pointer) kept ∙ at.1))
+leads-entry : (items : List LogItem) (lsn : ℤ) (pointer : DiskPtr) (Is : Entry → Type 0) (entry : Entry) → Leads items pointer Is → IsKept items entry → IsAt lsn pointer entry → Is entry
+leads-entry items lsn pointer Is entry leads (i, item, change, is, mark, kept) at = subst Is kept (leads i item change is mark (ap (λ (e : Entry). e.place.pointer) kept ∙ at.1))
+
+-- so it holds of each entry of a chain that is kept there
+module _ (self counted : MemLog) (same : kept_in counted ≡ kept_in self) (pid : ℕ) (lsn : ℤ) (pointer : DiskPtr) (Is : Entry → Type 0) (leads : Leads (kept_in counted) pointer Is) where
+  pub each-is : All (λ entry. IsAt lsn pointer entry → Is entry) (slice_index_or (now effect_of_entry (state_of self)) pid [])
+  each-is = λ k d lt at.
+      leads-entry (kept_in self) lsn pointer Is _ (subst (λ (l : List LogItem). Leads l pointer Is) same leads)
+      (now-kept self.clock self.stable (kept_in self) self.in_order pid k d lt) at
+
+  pub one-is : Any (IsAt lsn pointer) (slice_index_or (now effect_of_entry (state_of self)) pid []) → (entry : Entry) × Is entry
+  one-is (i, entry, lt, is, at) = (entry, subst Is is (each-is i entry lt (subst (IsAt lsn pointer) (sym is) at)))

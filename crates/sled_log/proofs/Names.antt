@@ -20,7 +20,7 @@ pub use Rattle.sled_log.specs.LogState.{Adds, CrashesSinceLeave, IsLeft, LogStat
 pub use Rattle.sled_log.specs.Inside.Memory.{Remembers, mark_in, put_message, was_at}
 pub use Rattle.sled_log.specs.MemLog.State.{clock_of, counts_of, kept_in, might_have_left, moves_of, state_of}
 pub use Rattle.sled_log.specs.Messages.{Chain, Entry, Message, Messages, effect_of, effect_of_entry, kind_at, message, message_in, placed_entry, messages_of}
-pub use Rattle.sled_log.specs.Pages.{IsAt, IsPageState, IsRead, IsSized, said_of}
+pub use Rattle.sled_log.specs.Pages.{IsAt, IsPageState, IsRead, IsReadAs, IsSized, said_of}
 pub use Rattle.sled_log.specs.Inside.ReadingLaws.{one_content, one_update}
 pub use Rattle.sled_log.specs.Inside.RunLaws.{Called-stop, CrashesSinceLeave-weaker, Ran, Ran-more, Ran-stop, append-events, call-added, call-stop, now-call, open-call, tells-call}
 pub use Rattle.sled_log.specs.Runs.{can_make, can_make_all, events_of, events_of_all, leaves_open}
@@ -47,6 +47,6 @@ pub use Rattle.std.proofs.lemmas.List.Sums.{sum-map, sum_by-append, sum_by-cons,
 pub use Rattle.std.proofs.lemmas.Option.{get_or_from_slice_get, slice_get_read, slice_get_within}
 pub use Rattle.std.proofs.lemmas.Result.{err_from_is_err_and, on_ok_weaker}
 pub use Rattle.std.specs.Global.{Vec}
-pub use Rattle.std.specs.List.{AllByRecursion, AllZip, Any, filter, list_all, slice_get, sum_by}
+pub use Rattle.std.specs.List.{All, AllByRecursion, AllZip, Any, filter, list_all, slice_get, sum_by}
 pub use Rattle.std.specs.List.Sorted.{IsNonDecreasingBy}
 pub use Rattle.std.specs.Prelude.{OnOk, ⊤}

@@ -6,6 +6,7 @@ pub mod Chains
 pub mod LogState
 pub mod Calls
 pub mod Pages
+pub mod Payloads
 pub mod Moves
 pub mod Contents
 pub mod Reading

@@ -1,5 +1,5 @@
 -- How a log answers what it keeps of pages.
-use Rattle.std.specs.Prelude.{◌≡◌, ℕ, ℤ, ◌<◌, true, false, [], ◌∷◌, map, sum_by}
+use Rattle.std.specs.Prelude.{◌≡◌, ℕ, ℤ, ◌<◌, true, false, List, [], ◌∷◌, map, sum_by}
 use Rattle.std.specs.Global.{Vec}
 use Rattle.std.specs.List.{AllByRecursion}
 use Rattle.sled_base.specs.declared.kinds.MessageKind.{MessageKind}
@@ -33,5 +33,9 @@ abbrev pub IsAt : ℤ → DiskPtr → Entry → Type 0
 IsAt lsn pointer entry = (entry.place.lsn ≡ lsn) × (entry.place.pointer ≡ pointer)
 
 -- what a reader of an entry gets: its kind, or that of its blob, and its payload
+abbrev pub IsReadAs : Entry → MessageKind → List ℕ → Type 0
+IsReadAs entry kind payload = (kind ≡ kind_at entry.place.pointer entry.message.kind) × (payload ≡ entry.message.payload)
+
+-- the same, in memory of its own
 abbrev pub IsRead : Entry → MessageKind × Vec ℕ → Type 0
-IsRead entry found = (found.0 ≡ kind_at entry.place.pointer entry.message.kind) × (found.1.items ≡ entry.message.payload)
+IsRead entry found = IsReadAs entry found.0 found.1.items

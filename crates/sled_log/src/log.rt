@@ -9,13 +9,14 @@ ghost use Rattle.sled_log.specs.Events.{Change, Pin, Seal, Cancel};
 ghost use Rattle.sled_log.specs.Limits.{head_size, size_limit};
 ghost use Rattle.sled_log.specs.Messages.{Entry, Messages, message, message_size, placed_entry, effect_of, effect_of_entry};
 ghost use Rattle.sled_log.specs.Moves.{HasBlob, NamesBlob, message_at};
-ghost use Rattle.sled_log.specs.Pages.{IsPageState, IsSized, IsAt, IsRead};
+ghost use Rattle.sled_log.specs.Pages.{IsPageState, IsSized, IsAt, IsRead, IsReadAs};
+ghost use Rattle.sled_log.specs.Payloads.{payload_in};
 ghost use Rattle.sled_log.specs.LogState.{LogState, now, IsLeft, unplaced_state};
 ghost use Rattle.sled_log.specs.Calls.{refusal_of};
 ghost use Rattle.sled_base.specs.Errors.{error_of};
 ghost use Rattle.sled_log.specs.declared.log.LogError.TheVariants.{Memory, Full, ReadFault, WriteFault};
 
-use crate::PageState;
+use crate::{PageState, Payload};
 use sled_base::{
     BlobPointer, Device, DiskPtr, Error, LogOffset, Lsn, MessageKind, PageId, Refusal, Why,
 };
@@ -155,6 +156,33 @@ pub trait Log: Drop {
             (slice_index_or (now effect_of_entry (state self.old)) pid [])) }
         ensures room { (n : ℕ) → is_full self.new n → is_full self.old n }
         ensures not_full { IsErrOf result Full → ⊥ };
+
+    /// Reads a message as `read` does. A payload for which `space` has room may be put there, at its front, and takes no memory then.
+    ///
+    /// `Payload::bytes` gives it in either case. What else the space holds may be any bytes. A log that has no such call of its own reads
+    /// so by `read`.
+    fn read_to(
+        &mut self,
+        pid: PageId,
+        lsn: Lsn,
+        pointer: DiskPtr,
+        space: &mut [u8],
+    ) -> Result<(MessageKind, Payload), LogError>
+        requires usable { (state self.old).usable ≡ true }
+        requires known { tells → Any (IsAt lsn pointer)
+            (slice_index_or (now effect_of_entry (state self.old)) pid []) }
+        ensures called { ReadsOnce tells state moment left_since counts self.old self.new result }
+        ensures found { tells → IfOk result (λ found. All (λ entry. IsAt lsn pointer entry
+            → IsReadAs entry found.0 (payload_in space.new found.1))
+            (slice_index_or (now effect_of_entry (state self.old)) pid [])) }
+        ensures room { (n : ℕ) → is_full self.new n → is_full self.old n }
+        ensures not_full { IsErrOf result Full → ⊥ }
+    {
+        match self.read(pid, lsn, pointer) {
+            Ok((kind, payload)) => Ok((kind, Payload::Long(payload))),
+            Err(error) => Err(error),
+        }
+    }
 
     /// Makes all that is pending durable, and answers how many bytes it wrote. It allocates nothing.
     fn make_stable(&mut self) -> Result<usize, LogError>

@@ -26,5 +26,5 @@ pub use sled_base::{
     LogOffset, Lsn, MessageKind, PageId, PageState, Refusal, SegmentId, Serialize, Why,
 };
 pub use sled_disk::{self, Disk, DiskLog, FileDisk, MemDisk};
-pub use sled_log::{self, Log, LogError, MemLog};
+pub use sled_log::{self, Log, LogError, MemLog, Payload};
 pub use sled_node::{self, Data, Index, Item, Leaf, Link, Meta, Node};

@@ -10,7 +10,8 @@ ghost use Rattle.sled_log.specs.Limits.{head_size, size_limit};
 ghost use Rattle.sled_log.specs.LogState.{now};
 ghost use Rattle.sled_log.specs.Messages.{effect_of_entry, message, placed_entry};
 ghost use Rattle.sled_log.specs.Moves.{Named, due_among, moves_with};
-ghost use Rattle.sled_log.specs.Pages.{IsPageState, IsSized, IsAt, IsRead};
+ghost use Rattle.sled_log.specs.Pages.{IsPageState, IsSized, IsAt, IsRead, IsReadAs};
+ghost use Rattle.sled_log.specs.Payloads.{payload_in};
 ghost use Rattle.sled_log.specs.declared.log.LogError.TheVariants.{Memory, Full, WriteFault, Corruption};
 ghost use Rattle.sled_base.specs.declared.types.DiskPtr.TheVariants.{Inline};
 ghost use Rattle.sled_disk.specs.Crash.{BytesLeft};
@@ -27,7 +28,7 @@ use super::finding::find;
 use crate::disk::{Disk, count};
 use crate::recovery::pages_of;
 use sled_base::{BlobPointer, DiskPtr, LogOffset, Lsn, MessageKind, PageId};
-use sled_log::{Log, LogError, PageState};
+use sled_log::{Log, LogError, PageState, Payload};
 
 // What an append answers of a record at a place.
 fn said_at(place: u64, len: usize) -> (Lsn, DiskPtr, u64)
@@ -111,7 +112,7 @@ impl<D: Disk> Log for DiskLog<D> {
         Ok(said)
     }
 
-    // A record that is pending is read from memory. A place of the page's chain is never Corruption, whatever the disk gives.
+    // It is read by `read_to`, with no space.
     fn read(
         &mut self,
         pid: PageId,
@@ -138,6 +139,40 @@ impl<D: Disk> Log for DiskLog<D> {
             (chains_of self.old.pages.items) pid []) → IsErrOf result Corruption → ⊥ }
         ensures unnamed { moves_in self.new.names ≡ moves_in self.old.names }
     {
+        match self.read_to(pid, lsn, pointer, &mut []) {
+            Ok((kind, payload)) => Ok((kind, payload.into_vec(self.alloc))),
+            Err(error) => Err(error),
+        }
+    }
+
+    // A record that is pending is read from memory. A place of the page's chain is never Corruption, whatever the disk gives.
+    fn read_to(
+        &mut self,
+        pid: PageId,
+        lsn: Lsn,
+        pointer: DiskPtr,
+        space: &mut [u8],
+    ) -> Result<(MessageKind, Payload), LogError>
+        requires usable { (⟦<Self as Log>⟧.state self.old).usable ≡ true }
+        requires known { D.tells → Any (IsAt lsn pointer)
+            (slice_index_or (now effect_of_entry (⟦<Self as Log>⟧.state self.old)) pid []) }
+        ensures called { ReadsOnce D.tells ⟦<Self as Log>⟧.state ⟦<Self as Log>⟧.moment
+            ⟦<Self as Log>⟧.left_since ⟦<Self as Log>⟧.counts self.old self.new result }
+        ensures found { D.tells → IfOk result (λ found. All (λ entry. IsAt lsn pointer entry
+            → IsReadAs entry found.0 (payload_in space.new found.1))
+            (slice_index_or (now effect_of_entry (⟦<Self as Log>⟧.state self.old)) pid [])) }
+        ensures settings { (self.new.segment_size ≡ self.old.segment_size)
+            × (self.new.clean_every ≡ self.old.clean_every) }
+        ensures room { (n : ℕ) → IsFullFor self.new.next n → IsFullFor self.old.next n }
+        ensures not_full { IsErrOf result Full → ⊥ }
+        ensures rests { Rests D.tells D.seen D.may_leave D.moment D.left_since self.old.disk
+            self.new.disk }
+        ensures memory { (at : ℕ) → pointer ≡ Inline at → self.old.next.gate < at
+            → self.new.disk ≡ self.old.disk }
+        ensures sound { Any (λ head. pointer ≡ Inline head.place) (slice_index_or
+            (chains_of self.old.pages.items) pid []) → IsErrOf result Corruption → ⊥ }
+        ensures unnamed { moves_in self.new.names ≡ moves_in self.old.names }
+    {
         count(&mut self.reads);
         let DiskPtr::Inline(at) = pointer else {
             return Err(LogError::Corruption);
@@ -145,7 +180,7 @@ impl<D: Disk> Log for DiskLog<D> {
         let Some(head) = find(&self.pages, pid, at) else {
             return Err(LogError::Corruption);
         };
-        let payload = self.payload(head)?;
+        let payload = self.payload(head, space)?;
         Ok((head.kind, payload))
     }
 

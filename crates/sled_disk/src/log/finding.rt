@@ -2,6 +2,7 @@
 
 ghost use Rattle.std.specs.Prelude.{◌≡◌, ◌≢◌, ◌≤◌, ◌<◌, ◌+◌, ◌-◌, ◌^◌, ◌⊎◌, ℕ, List, [], true, length, take, drop, slice_index_or, IfOk, IfErr, IfSome, IfNone, IsErrOf};
 ghost use Rattle.std.specs.List.{AllByRecursion};
+ghost use Rattle.sled_log.specs.Payloads.{payload_in};
 ghost use Rattle.sled_log.specs.declared.log.LogError.TheVariants.{Memory, ReadFault, Corruption};
 ghost use Rattle.sled_disk.specs.Found.{IsHeadOf};
 ghost use Rattle.sled_disk.specs.Names.{moves_in};
@@ -14,7 +15,7 @@ use super::DiskLog;
 use crate::disk::Disk;
 use crate::head::Head;
 use sled_base::{LogOffset, PageId};
-use sled_log::LogError;
+use sled_log::{LogError, Payload};
 use std::alloc::Global;
 
 // The head of the record at a place.
@@ -43,22 +44,32 @@ pub(crate) fn find(pages: &[Vec<Head>], pid: PageId, at: LogOffset) -> Option<He
     head_at(&pages[pid as usize], at)
 }
 
-// So many bytes at a place of a disk.
-fn bytes_on<D: Disk>(alloc: Global, disk: &mut D, at: u64, len: usize) -> Result<Vec<u8>, LogError>
-    ensures bytes { D.tells
-        → IfOk result (λ bytes. bytes.items ≡ take len (drop at (D.seen disk.old))) }
+// So many bytes at a place of a disk, as the payload of a message: they are put into the space where it has room for them.
+fn payload_on<D: Disk>(
+    alloc: Global,
+    disk: &mut D,
+    at: u64,
+    len: usize,
+    space: &mut [u8],
+) -> Result<Payload, LogError>
+    ensures bytes { D.tells → IfOk result
+        (λ payload. payload_in space.new payload ≡ take len (drop at (D.seen disk.old))) }
     ensures only { IfErr result (λ e. (e ≡ Memory) ⊎ (e ≡ ReadFault)) }
     ensures rests { Rests D.tells D.seen D.may_leave D.moment D.left_since disk.old disk.new }
     ensures faults { ReadFaults (D.counts disk.old) (D.counts disk.new) result }
 {
-    let mut bytes = vec![in alloc; 0; len]?;
-    disk.read_at(at, &mut bytes)?;
-    Ok(bytes)
+    if len > space.len() {
+        let mut bytes = vec![in alloc; 0; len]?;
+        disk.read_at(at, &mut bytes)?;
+        return Ok(Payload::Long(bytes));
+    }
+    disk.read_at(at, &mut space[..len])?;
+    Ok(Payload::Short(len))
 }
 
 impl<D: Disk> DiskLog<D> {
-    // The payload of a record: that of a pending one stands in memory.
-    pub(crate) fn payload(&mut self, head: Head) -> Result<Vec<u8>, LogError>
+    // The payload of a record, which is put into the space where it has room for it: that of a pending one is copied from memory.
+    pub(crate) fn payload(&mut self, head: Head, space: &mut [u8]) -> Result<Payload, LogError>
         requires usable { self.old.usable ≡ true }
         requires placed { IsPlaced head }
         requires ends { EndsBy (place_of self.old.next) head }
@@ -69,9 +80,11 @@ impl<D: Disk> DiskLog<D> {
         ensures usable { self.new.usable ≡ true }
         ensures reads { self.new.reads ≡ self.old.reads }
         ensures durable { D.tells → head.place ≤ self.old.next.gate → IfOk result
-            (λ bytes. bytes.items ≡ take head.len (drop (head.place + 17) (D.seen self.old.disk))) }
-        ensures pending { self.old.next.gate < head.place → IfOk result (λ bytes. bytes.items ≡ take
-            head.len (drop (head.place - self.old.next.gate - 1 + 17) self.old.next.buffer.items)) }
+            (λ payload. payload_in space.new payload
+            ≡ take head.len (drop (head.place + 17) (D.seen self.old.disk))) }
+        ensures pending { self.old.next.gate < head.place → IfOk result
+            (λ payload. payload_in space.new payload ≡ take head.len
+            (drop (head.place - self.old.next.gate - 1 + 17) self.old.next.buffer.items)) }
         ensures memory { self.old.next.gate < head.place → self.new.disk ≡ self.old.disk }
         ensures only { IfErr result (λ e. (e ≡ Memory) ⊎ (e ≡ ReadFault)) }
         ensures rests { Rests D.tells D.seen D.may_leave D.moment D.left_since self.old.disk
@@ -81,13 +94,10 @@ impl<D: Disk> DiskLog<D> {
         let gate = self.next.gate();
         if head.place > gate {
             let at = head.place - gate - 1;
-            return Ok(self.next.payload(self.alloc, at, head.len)?);
+            let bytes = self.next.payload(at, head.len);
+            return Ok(Payload::put(self.alloc, bytes, space)?);
         }
-        bytes_on(
-            self.alloc,
-            &mut self.disk,
-            head.place + 17,
-            head.len as usize,
-        )
+        let (at, len) = (head.place + 17, head.len as usize);
+        payload_on(self.alloc, &mut self.disk, at, len, space)
     }
 }

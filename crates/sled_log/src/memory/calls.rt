@@ -13,7 +13,8 @@ ghost use Rattle.sled_log.specs.Limits.{head_size, size_limit};
 ghost use Rattle.sled_log.specs.Messages.{effect_of_entry, message, message_size, placed_entry};
 ghost use Rattle.sled_log.specs.Moves.{HasBlob, message_at, moves_with, Named};
 ghost use Rattle.sled_log.specs.Inside.MovesLaws.{due_within};
-ghost use Rattle.sled_log.specs.Pages.{IsPageState, IsSized, IsAt, IsRead};
+ghost use Rattle.sled_log.specs.Pages.{IsPageState, IsSized, IsAt, IsRead, IsReadAs};
+ghost use Rattle.sled_log.specs.Payloads.{payload_in};
 ghost use Rattle.sled_log.specs.LogState.{now};
 ghost use Rattle.sled_log.specs.declared.log.LogError.TheVariants.{Memory, Full};
 
@@ -22,7 +23,7 @@ use super::finding::{before_change, behind};
 use super::item::Mark;
 use super::keeping::settle_from;
 use super::pages::{apply, said_at};
-use crate::{Log, LogError, PageState};
+use crate::{Log, LogError, PageState, Payload};
 use sled_base::{BlobPointer, DiskPtr, LogOffset, Lsn, MessageKind, PageId};
 
 impl Log for MemLog {
@@ -109,7 +110,39 @@ impl Log for MemLog {
         ensures unnamed { moves_of self.new ≡ moves_of self.old }
     {
         self.count_read();
-        self.kind_and_payload(pointer)?.ok_or(LogError::Corruption)
+        let Some((kind, payload)) = self.kind_and_payload(pointer) else {
+            return Err(LogError::Corruption);
+        };
+        Ok((kind, payload.to_vec(self.alloc)?))
+    }
+
+    // A payload for which the space has room is put there.
+    fn read_to(
+        &mut self,
+        pid: PageId,
+        lsn: Lsn,
+        pointer: DiskPtr,
+        space: &mut [u8],
+    ) -> Result<(MessageKind, Payload), LogError>
+        requires known { Any (IsAt lsn pointer)
+            (slice_index_or (now effect_of_entry (state_of self.old)) pid []) }
+        ensures called { ReadsOnce ⊤ state_of clock_of might_have_left counts_of self.old self.new
+            result }
+        ensures found { IfOk result (λ found. All (λ entry. IsAt lsn pointer entry
+            → IsReadAs entry found.0 (payload_in space.new found.1))
+            (slice_index_or (now effect_of_entry (state_of self.old)) pid [])) }
+        ensures room { (n : ℕ) → size_limit ≤ size_of self.new + head_size + n
+            → size_limit ≤ size_of self.old + head_size + n }
+        ensures moves { MovesNothing self.old self.new (λ _. []) result }
+        ensures only { IfErr result (λ e. e ≡ Memory) }
+        ensures past { Remembers self.old self.new }
+        ensures unnamed { moves_of self.new ≡ moves_of self.old }
+    {
+        self.count_read();
+        let Some((kind, payload)) = self.kind_and_payload(pointer) else {
+            return Err(LogError::Corruption);
+        };
+        Ok((kind, Payload::put(self.alloc, payload, space)?))
     }
 
     // It is never refused.

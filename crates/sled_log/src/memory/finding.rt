@@ -1,6 +1,6 @@
 // How a message is found by its place.
 
-ghost use Rattle.std.specs.Prelude.{◌≡◌, ◌+◌, ◌≤◌, ◌<◌, ◌^◌, ℕ, pos, length, Some, IfOk, IfSome, slice_get, IsSomeAnd, vec_len};
+ghost use Rattle.std.specs.Prelude.{◌≡◌, ◌+◌, ◌≤◌, ◌<◌, ◌^◌, ℕ, pos, length, Some, IfSome, slice_get, IsSomeAnd, vec_len};
 ghost use Rattle.sled_base.specs.Pointers.{offset_of};
 ghost use Rattle.sled_base.specs.declared.types.DiskPtr.TheVariants.{Blob};
 ghost use Rattle.sled_log.specs.MemLog.Items.{entry_of};
@@ -8,13 +8,12 @@ ghost use Rattle.sled_log.specs.MemLog.Kept.{LogItem as KeptItem, KeptChange};
 ghost use Rattle.sled_log.specs.MemLog.Kept as kept;
 ghost use Rattle.sled_log.specs.MemLog.Stored.{part};
 ghost use Rattle.sled_log.specs.Messages.{kind_at};
-ghost use Rattle.sled_log.specs.Pages.{IsRead};
+ghost use Rattle.sled_log.specs.Pages.{IsReadAs};
 ghost use Rattle.sled_log.specs.Inside.Stored.{place_after, start_after, before_change};
 
 use super::MemLog;
 use super::item::{Held, LogItem, Mark};
 use sled_base::{BlobPointer, DiskPtr, LogOffset, MessageKind};
-use std::alloc::AllocError;
 
 // The kind that a reader is told of a message of a kind that is kept there.
 fn kind_read(kind: MessageKind, pointer: DiskPtr) -> MessageKind
@@ -113,20 +112,15 @@ impl MemLog {
         Some((kind, held))
     }
 
-    // The message that the pointer leads to, as a reader is told, if there is one.
-    pub(super) fn kind_and_payload(
-        &self,
-        pointer: DiskPtr,
-    ) -> Result<Option<(MessageKind, Vec<u8>)>, AllocError>
-        ensures { IfOk result (λ found. (i : ℕ) (item : KeptItem) (change : KeptChange)
+    // The message that the pointer leads to, if there is one: its kind, as a reader is told, and its payload.
+    pub(super) fn kind_and_payload(&self, pointer: DiskPtr) -> Option<(MessageKind, &[u8])>
+        ensures { (i : ℕ) (item : KeptItem) (change : KeptChange)
             → slice_get (kept_in self.now) i ≡ Some item → item.mark ≡ kept.Change change
-            → change.pointer ≡ pointer → IsSomeAnd found (IsRead (entry_of change))) }
+            → change.pointer ≡ pointer
+            → IsSomeAnd result (λ found. IsReadAs (entry_of change) found.0 found.1.now) }
     {
         let at = self.index_of(pointer.lid());
-        let Some((kind, start, len)) = self.message_at(at) else {
-            return Ok(None);
-        };
-        let payload = self.bytes[start..start + len].to_vec(self.alloc)?;
-        Ok(Some((kind_read(kind, pointer), payload)))
+        let (kind, start, len) = self.message_at(at)?;
+        Some((kind_read(kind, pointer), &self.bytes[start..start + len]))
     }
 }

@@ -33,32 +33,32 @@ fn filled(alloc: Global, bytes: &[u8], count: usize) -> Result<(MemLog, Vec<Disk
 }
 
 // Whether a reader is told this payload, and the kind that it is kept under.
-fn is_read_so(found: &Option<(MessageKind, Vec<u8>)>, payload: &[u8]) -> bool {
+fn is_read_so(found: Option<(MessageKind, &[u8])>, payload: &[u8]) -> bool {
     let expected = if payload.len() <= LIMIT {
         MessageKind::InlineNode
     } else {
         MessageKind::BlobNode
     };
     match found {
-        Some((kind, bytes)) => *kind == expected && bytes.as_slice() == payload,
+        Some((kind, bytes)) => kind == expected && bytes == payload,
         None => false,
     }
 }
 
 // Whether the log tells the first messages where they were put, and none of the others.
-fn tells(log: &MemLog, bytes: &[u8], pointers: &[DiskPtr], kept: usize) -> Result<bool, LogError> {
+fn tells(log: &MemLog, bytes: &[u8], pointers: &[DiskPtr], kept: usize) -> bool {
     for (number, pointer) in pointers.iter().enumerate() {
-        let found = log.kind_and_payload(*pointer)?;
+        let found = log.kind_and_payload(*pointer);
         let so = if number < kept {
-            is_read_so(&found, payload(bytes, number))
+            is_read_so(found, payload(bytes, number))
         } else {
             found.is_none()
         };
         if !so {
-            return Ok(false);
+            return false;
         }
     }
-    Ok(true)
+    true
 }
 
 // Whether no more than an eighth of the memory is spare, and room for seven.
@@ -72,11 +72,11 @@ fn spare_is_small(log: &MemLog) -> bool {
 fn keeps_its_messages(alloc: Global, count: usize) -> Result<bool, LogError> {
     let (log, pointers) = filled(alloc, &BYTES, count)?;
     let kept = count / 2;
-    if !tells(&log, &BYTES, &pointers, count)? || !spare_is_small(&log) || !log.is_fair(kept) {
+    if !tells(&log, &BYTES, &pointers, count) || !spare_is_small(&log) || !log.is_fair(kept) {
         return Ok(false);
     }
     let left = log.stop(kept);
-    Ok(left.items.len() == kept && tells(&left, &BYTES, &pointers, kept)?)
+    Ok(left.items.len() == kept && tells(&left, &BYTES, &pointers, kept))
 }
 
 #[test]

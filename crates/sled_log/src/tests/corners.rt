@@ -64,6 +64,28 @@ pub(super) fn is_message(
     }
 }
 
+// Whether the last message of the page is read so with a space of so many bytes, and is in there where that has room for it.
+fn is_read_to(
+    log: &mut MemLog,
+    pid: PageId,
+    room: usize,
+    kind: MessageKind,
+    payload: &[u8],
+) -> Result<bool, LogError> {
+    let pages = log.recover()?;
+    let Some(page) = pages.get(pid as usize) else {
+        return Ok(false);
+    };
+    let (lsn, pointer) = last_of(page);
+    let mut bytes = [1; 1001];
+    let Some(space) = bytes.get_mut(..room) else {
+        return Ok(false);
+    };
+    let (found, read) = log.read_to(pid, lsn, pointer, space)?;
+    let is_short = matches!(&read, Payload::Short(_));
+    Ok(found == kind && read.bytes(space) == payload && is_short == (payload.len() <= room))
+}
+
 // ---- messages of each kind
 
 // Whether a message behind another one of its page is put there, and read again, before and after a crash.
@@ -83,7 +105,11 @@ fn is_kept(
         (DiskPtr::Inline(17), kinds.0)
     };
     let is_put = is_at(log.append(kinds.0, 0, payload), 17, pointer, size);
-    let is_read = is_message(&read_last(&mut log, 0)?, kind, payload);
+    let mut is_read = is_message(&read_last(&mut log, 0)?, kind, payload);
+    let len = payload.len();
+    for room in [0, len.saturating_sub(1), len, len.saturating_add(1)] {
+        is_read = is_read && is_read_to(&mut log, 0, room, kind, payload)?;
+    }
     if !log.is_fair(2) {
         return Ok(false);
     }
