@@ -1,5 +1,5 @@
 -- The messages of a page make one content, and each beginning of them makes a node.
-use Rattle.sled_pagecache.proofs.Names.{◌≡◌, ℕ, ◌+◌, ◌-◌, ◌<◌, List, [], ◌∷◌, ◌++◌, length, map, take, drop, get_or, Some, refl, sym, ap, subst, ◌∙◌, arith, get_or_after_one, take_all, drop_more, length-drop, length-append, length-map, append_assoc, ◌⊎◌, take-append-drop, map-append, DiskPtr, Refusal, Corruption, OutOfMemory, Content, Node, Message, Messages, LeadTo, Makes, one_content, applied, WholeNode, Found, found_message, MakesNode, IsFirstWrong, Leads, RefusesMessage, RefusesNode}
+use Rattle.sled_pagecache.proofs.Names.{◌≡◌, ℕ, ◌+◌, ◌<◌, List, [], ◌∷◌, ◌++◌, length, map, take, drop, get_or, Some, refl, sym, ap, subst, ◌∙◌, arith, drop_more, length-append, length-map, append_assoc, ◌⊎◌, take-append-drop, map-append, DiskPtr, Refusal, Corruption, OutOfMemory, Content, Node, Entry, Chain, Message, Messages, messages_of, LeadTo, Makes, one_content, applied, WholeNode, MakesNode, IsFirstWrong, Leads, RefusesMessage, RefusesPull}
 
 -- ---- messages behind others
 
@@ -44,33 +44,24 @@ makes-front (x ∷ told) more after some h =
 pub refuses_so : (pointer : DiskPtr) (a b : Type 0) → (a → b) → (e : Refusal) → RefusesMessage pointer a e → RefusesMessage pointer b e
 refuses_so pointer a b f e h = grind arith
 
--- ---- the messages so far
-
--- the message behind the first i + 1
-pub at_rest : (found : List Found) (i : ℕ) (m : Found) → i < length (take (length found - 1) (drop 1 found)) → m ≡ get_or (take (length found - 1) (drop 1 found)) i m
-    → (i + 1 < length found) × (m ≡ get_or found (i + 1) m)
-at_rest found i m h e =
-    let all = take_all (length found - 1) (drop 1 found) (omega (arith, length-drop 1 found)) in
-    (grind (arith, length-drop 1 found, all), grind (arith, all, get_or_after_one found i m))
-
--- ---- all messages, refused
+-- ---- a chain, refused
 
 -- those before it were none, or made a node
-pub refused-at : (found : List Found) (i : ℕ) (m : Found) (amiss : Type 0) (e : Refusal) → i < length found → m ≡ get_or found i m
-    → (take i found ≡ []) ⊎ MakesNode (map found_message (take i found)) → (amiss → ¬ MakesNode (map found_message (take i found ++ m ∷ [])))
-    → RefusesMessage m.pointer amiss e → RefusesNode found e
-refused-at found i m amiss OutOfMemory lt is sound wrong r = tt
-refused-at found i m amiss (Corruption (Some place)) lt is sound wrong r = record {
-  before = take i found;
-  first = m;
-  after = drop (i + 1) found;
+pub refused-at : (chain : Chain) (i : ℕ) (entry : Entry) (amiss : Type 0) (e : Refusal) → i < length chain → entry ≡ get_or chain i entry
+    → (take i chain ≡ []) ⊎ MakesNode (messages_of (take i chain)) → (amiss → ¬ MakesNode (messages_of (take i chain ++ entry ∷ [])))
+    → RefusesMessage entry.place.pointer amiss e → RefusesPull chain e
+refused-at chain i entry amiss OutOfMemory lt is sound wrong r = tt
+refused-at chain i entry amiss (Corruption (Some place)) lt is sound wrong r = record {
+  before = take i chain;
+  first = entry;
+  after = drop (i + 1) chain;
   is =
-      sym (ap (λ (l : List Found). take i found ++ l) (ap (λ (f : Found). f ∷ drop (i + 1) found) is ∙ sym (drop_more found i m lt)) ∙ take-append-drop i found);
+      sym (ap (λ (l : Chain). take i chain ++ l) (ap (λ (e : Entry). e ∷ drop (i + 1) chain) is ∙ sym (drop_more chain i entry lt)) ∙ take-append-drop i chain);
   kept = sym r.0;
   sound = sound;
   wrong = wrong r.1;
 }
-refused-at found i m amiss e lt is sound wrong r = absurd r
+refused-at chain i entry amiss e lt is sound wrong r = absurd r
 
 -- messages of which one is wrong make no node
 pub wrong-none : {M : Type 0} (message : M → Message) (kept_at : M → DiskPtr) (messages : List M) (pointer : DiskPtr) → IsFirstWrong message kept_at messages pointer → ¬ MakesNode (map message messages)

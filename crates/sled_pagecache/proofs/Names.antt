@@ -33,7 +33,7 @@ pub use Rattle.sled_log.specs.Inside.Laws.{Adds-none, AddsEvents-then, CrashKeep
 pub use Rattle.sled_log.specs.Limits.{head_size}
 pub use Rattle.sled_log.specs.MemLog.State.{clock_of, counts_of, might_have_left, state_of}
 pub use Rattle.sled_log.specs.Messages.{Chain, Entry, Message, Messages, blob_kind, effect_of, effect_of_entry, kind_at, message, message_in, placed_entry, messages_of}
-pub use Rattle.sled_log.specs.Pages.{IsAt, IsPageState, IsRead, IsSized, freed_of, said_of}
+pub use Rattle.sled_log.specs.Pages.{IsAt, IsPageState, IsReadAs, IsSized, freed_of, said_of}
 pub use Rattle.sled_log.specs.Reading.{AreEvents, Decodes, Hold, Holds, IsEvent, IsUpdate, LeadTo, Makes, MayChange, MayCome}
 pub use Rattle.sled_log.specs.Inside.ReadingLaws.{contents_after-append, events-append, events-take, one_content, one_update, reads-fair, reads-open, reads_effect}
 pub use Rattle.sled_log.specs.Inside.RunLaws.{CrashesSinceLeave-weaker}
@@ -63,7 +63,7 @@ pub use Rattle.sled_pagecache.specs.Calls.{ActOver, Acts, HasNoRoom, HasNoRoomAg
 pub use Rattle.sled_pagecache.specs.Due.{due_in, due_page, is_one_blob, lies_in, pointers_of, segment_of}
 pub use Rattle.sled_pagecache.specs.Inside.Moves.{HoldsAgain, IsBlobOf, MovesOne, MovesOrNot, PutsAgain, RefusesOne, RefusesRewrite, pointers_in, reads_of}
 pub use Rattle.sled_pagecache.specs.Moves.{AccessesNamed, AttemptsMove, MovesDue, RefusesMove, is_blob_at, is_there, reads_to_move}
-pub use Rattle.sled_pagecache.specs.Inside.PageIn.{IsFoundAs}
+pub use Rattle.sled_pagecache.specs.Inside.PageIn.{IsFoundAs, IsOnly}
 pub use Rattle.sled_pagecache.specs.Cache.{chain_at}
 pub use Rattle.sled_pagecache.specs.Memory.{count_after}
 pub use Rattle.sled_pagecache.specs.Infos.{place_of}
@@ -93,7 +93,7 @@ pub use Rattle.sled_pagecache.specs.Inside.Eviction.{move_behind, IsPagedOut, ke
 pub use Rattle.sled_pagecache.specs.Inside.LogCalls.{Comes, IsCutShort, LacksRoom, Proceeds, Reaches, TakesNoRoom, is_fault, refusal_in}
 pub use Rattle.sled_pagecache.specs.Logged.{AreRoots, IsProper, IsUsers, StayProper}
 pub use Rattle.sled_pagecache.specs.Inside.PageIn.{RefusesPull}
-pub use Rattle.sled_pagecache.specs.Inside.PageIn.{BeginsFree, IsFoundWrong, Leads, RefusesMessage, RefusesNode, found_message}
+pub use Rattle.sled_pagecache.specs.Inside.PageIn.{Follows, Leads, RefusesFirst, RefusesMessage, found_message}
 pub use Rattle.sled_pagecache.specs.Damage.{IsDamaged, IsFirstWrong, IsWrongAt, MakesNode}
 pub use Rattle.sled_pagecache.specs.Memory.{HasRead, ReadsNothing, ReadsPage, own_among}
 pub use Rattle.sled_pagecache.specs.Inside.Recovery.{AllFit, BeginsMisfit, IsRecovered, info_at, is_misfit, kept_by}

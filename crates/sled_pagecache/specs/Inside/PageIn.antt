@@ -1,20 +1,21 @@
 -- What reading a page from the log answers, and what bringing it into memory makes of a cache.
-use Rattle.std.specs.Prelude.{◌≡◌, ◌≤◌, ℕ, [], List, ◌∷◌, ◌⊎◌, false, Some, ⊤, true, length, Option, None, Result, OnOk, OnErr, IfErr, slice_get}
+use Rattle.std.specs.Prelude.{◌≡◌, ◌≤◌, ℕ, [], List, ◌∷◌, ◌⊎◌, false, Some, ⊤, true, length, Option, None, Result, Ok, Err, OnOk, OnErr, IfErr, slice_get}
 use Rattle.sled_base.specs.declared.types.DiskPtr.{DiskPtr}
 use Rattle.sled_log.specs.Messages.{Entry, Chain, effect_of_entry, Message, messages_of, message}
-use Rattle.sled_log.specs.Pages.{IsRead}
+use Rattle.sled_log.specs.Pages.{IsReadAs}
 use Rattle.sled_pagecache.specs.declared.pagecache.memory.reading.Found.{Found}
+use Rattle.sled_base.specs.declared.kinds.MessageKind.{MessageKind}
 use Rattle.sled_base.specs.declared.kinds.MessageKind.TheVariants as kinds
 use Rattle.sled_base.specs.declared.types.Bug.TheVariants.{FreeInPull}
 use Rattle.sled_base.specs.declared.types.Refusal.{Refusal}
 use Rattle.sled_base.specs.declared.types.Refusal.TheVariants.{ReportableBug, Corruption, OutOfMemory, Io, Unsupported}
 use Rattle.sled_log.specs.Chains.{is_empty}
-use Rattle.sled_log.specs.Contents.{Node, Link}
+use Rattle.sled_log.specs.Contents.{Node, Link, Put}
 use Rattle.sled_log.specs.Reading.{IsUpdate, Makes}
 use Rattle.sled_node.specs.Links.{Accepts, applied}
 use Rattle.sled_node.specs.Node.{WholeNode}
 use Rattle.sled_node.specs.declared.node.link.Link.{Link as NodeLink}
-use Rattle.sled_pagecache.specs.Damage.{IsFirstWrong, IsWrongAt, IsDamaged, LeavesPages}
+use Rattle.sled_pagecache.specs.Damage.{IsWrongAt, IsDamaged, LeavesPages}
 use Rattle.sled_base.specs.declared.types.Why.TheVariants.{ReservedId}
 use Rattle.sled_log.specs.declared.log.Log.{Ghosts}
 use Rattle.sled_pagecache.specs.Cache.{Cache, IsResident, IsAway, chain_at}
@@ -32,29 +33,15 @@ use Rattle.sled_pagecache.specs.declared.pagecache.handles.view.NodeView.{NodeVi
 
 -- what a reader of an entry found: its kind, or that of its blob, its payload, and where it is kept
 abbrev pub IsFoundAs : Entry → Found → Type 0
-IsFoundAs entry found = IsRead entry (found.kind, found.payload) × (found.pointer ≡ entry.place.pointer)
+IsFoundAs entry found = IsReadAs entry found.kind found.payload.now × (found.pointer ≡ entry.place.pointer)
+
+-- The chain is one message, which was found so.
+abbrev pub IsOnly : Chain → MessageKind → List ℕ → DiskPtr → Type 0
+IsOnly chain kind payload pointer = (entry : Entry) × (chain ≡ entry ∷ []) × IsReadAs entry kind payload × (pointer ≡ entry.place.pointer)
 
 -- a message that was found, without its place
 abbrev pub found_message : Found → Message
-found_message found = message found.kind found.payload.items
-
-abbrev pub IsFoundWrong : List Found → DiskPtr → Type 0
-IsFoundWrong found pointer = IsFirstWrong found_message (λ found. found.pointer) found pointer
-
--- the first message says that the page is free
-abbrev pub BeginsFree : List Found → Type 0
-BeginsFree [] = ⊥
-BeginsFree (first ∷ found) = first.kind ≡ kinds.Free
-
--- why messages give no node: an allocation failed, one of them doesn't belong there, or the page is free
-abbrev pub RefusesNode : List Found → Refusal → Type 0
-RefusesNode found OutOfMemory = ⊤
-RefusesNode found (Corruption (Some pointer)) = IsFoundWrong found pointer
-RefusesNode found (ReportableBug FreeInPull) = BeginsFree found
--- there is no other reason
-RefusesNode found refusal = ⊥
-
--- ---- one message
+found_message found = message found.kind found.payload.now
 
 -- no value is encoded by the payload from its front to its end
 abbrev pub EncodesNothing : {V : Type 0} → (List ℕ → V → List ℕ → Type 0) → List ℕ → Type 0
@@ -70,6 +57,17 @@ RefusesMessage pointer amiss OutOfMemory = ⊤
 RefusesMessage pointer amiss (Corruption (Some place)) = (place ≡ pointer) × amiss
 -- there is no other reason
 RefusesMessage pointer amiss refusal = ⊥
+
+-- Why the first message of a page puts no node there: an allocation failed, it is amiss, or it frees the page.
+abbrev pub RefusesFirst : Found → Refusal → Type 0
+RefusesFirst found (ReportableBug FreeInPull) = found.kind ≡ kinds.Free
+RefusesFirst found refusal = RefusesMessage found.pointer ((node : WholeNode) → ¬ IsUpdate (found_message found) (Put (Node node))) refusal
+
+-- What messages make with one more, by what they made before it: a node, or nothing for a reason.
+abbrev pub Follows : Result WholeNode Refusal → Found → Result WholeNode Refusal → Type 0
+Follows (Ok before) found (Ok after) = Leads before (found_message found) after
+Follows (Ok before) found (Err refusal) = RefusesMessage found.pointer ((after : WholeNode) → ¬ Leads before (found_message found) after) refusal
+Follows (Err refusal) found made = made ≡ Err refusal
 
 -- An allocation failed, the device failed, or a message doesn't belong there, and the first such one is reported.
 abbrev pub RefusesPull : Chain → Refusal → Type 0

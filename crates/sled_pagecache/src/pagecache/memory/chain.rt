@@ -1,59 +1,66 @@
 //! The reading of a page's chain.
 
-ghost use Rattle.std.specs.Prelude.{◌≡◌, ℕ, ◌≤◌, [], false, true, length, map, IfOk, IfErr, OnOk, OnErr};
-ghost use Rattle.std.specs.List.{AllZip};
-ghost use Rattle.sled_log.specs.Messages.{effect_of_entry};
+ghost use Rattle.std.specs.Prelude.{◌≡◌, ℕ, ◌<◌, false, true, length, map, IfOk, IfErr};
+ghost use Rattle.sled_log.specs.Chains.{is_empty};
+ghost use Rattle.sled_log.specs.Contents as content;
+ghost use Rattle.sled_log.specs.Messages.{effect_of_entry, messages_of};
 ghost use Rattle.sled_log.specs.Pages.{said_of};
-ghost use Rattle.sled_log.specs.LogState.{now};
-ghost use Rattle.sled_pagecache.specs.Inside.PageIn.{IsFoundAs};
+ghost use Rattle.sled_log.specs.Reading.{Makes};
 ghost use Rattle.sled_pagecache.specs.Cache.{chain_at};
 ghost use Rattle.sled_pagecache.specs.Infos.{place_of};
-ghost use Rattle.sled_pagecache.specs.Memory.{count_after};
-ghost use Rattle.sled_pagecache.specs.Inside.StickyLog.{Went, IsCaused, IsOfLog};
+ghost use Rattle.sled_pagecache.specs.Inside.PageIn.{RefusesPull};
+ghost use Rattle.sled_pagecache.specs.Inside.Sizes.{ReadsLog};
 
-use crate::pagecache::memory::reading::Found;
+use crate::pagecache::memory::reading::{Found, first_held, with_link};
+use crate::pagecache::table::held::HeldNode;
 use crate::pagecache::table::page::CacheInfo;
 use crate::pagecache::write::sticky_log::StickyLog;
 use sled_base::{PageId, Refusal};
 use sled_log::Log;
 use std::alloc::Global;
 
-// Reads all messages of a page, one read of the log for each, in the order of its chain. Memory is taken before the first
-// read, but for that of the payloads.
-pub(crate) fn read_chain<L: Log>(
+// A payload of up to so many bytes takes no memory while it is read.
+pub(crate) const SPACE: usize = 256;
+
+// Reads the node of a page from the log, by one read for each of its messages, in the order of its chain. All are read, so a read that
+// fails is answered where a message before it doesn't belong there, too.
+pub(crate) fn read_node<L: Log>(
     alloc: Global,
     sticky_log: &mut StickyLog<L>,
     pid: PageId,
     infos: &[CacheInfo],
-) -> Result<Vec<Found>, Refusal>
+) -> Result<HeldNode, Refusal>
     requires ready { sticky_log.old.fault ≡ false }
     requires usable { (L.state sticky_log.old.log).usable ≡ true }
+    requires some { 0 < length infos.now }
     requires known { L.tells
         → map said_of (chain_at (L.state sticky_log.old.log) pid) ≡ map place_of infos.now }
-    ensures len { IfOk result (λ found. length found.items ≡ length infos.now) }
-    ensures found { L.tells → IfOk result
-        (λ found. AllZip IsFoundAs (chain_at (L.state sticky_log.old.log) pid) found.items) }
-    ensures went { Went L.Log sticky_log.old sticky_log.new [] }
-    ensures cause { IsCaused L.Log sticky_log.old sticky_log.new ⊥ result }
-    ensures sound { L.tells → IfErr result IsOfLog }
-    ensures same { L.tells → sticky_log.new.fault ≡ false → now effect_of_entry
-        (L.state sticky_log.new.log) ≡ now effect_of_entry (L.state sticky_log.old.log) }
+    requires full { L.tells
+        → is_empty effect_of_entry (chain_at (L.state sticky_log.old.log) pid) ≡ false }
+    ensures read { ReadsLog L.Log sticky_log.old sticky_log.new (length infos.now) result }
     ensures room { (n : ℕ) → L.is_full sticky_log.new.log n → L.is_full sticky_log.old.log n }
-    ensures reads { OnOk result ((L.counts sticky_log.new.log).reads
-        ≡ count_after (length infos.now) (L.counts sticky_log.old.log).reads) }
-    ensures at_most { OnErr result ((times : ℕ) × (times ≤ length infos.now) × ((L.counts
-        sticky_log.new.log).reads ≡ count_after times (L.counts sticky_log.old.log).reads)) }
+    ensures made { L.tells → IfOk result (λ node. Makes
+        (messages_of (chain_at (L.state sticky_log.old.log) pid)) (content.Node node)) }
+    ensures refused { L.tells
+        → IfErr result (RefusesPull (chain_at (L.state sticky_log.old.log) pid)) }
 {
-    let Ok(mut found) = Vec::with_capacity(alloc, infos.len()) else {
-        return Err(Refusal::OutOfMemory);
+    let mut space = [0; SPACE];
+    let first = infos[0];
+    let (kind, payload) = sticky_log.read_to(pid, first.lsn, first.pointer, &mut space)?;
+    let found = Found {
+        kind,
+        payload: payload.bytes(&space),
+        pointer: first.pointer,
     };
-    for info in infos {
-        let (kind, payload) = sticky_log.read(pid, info.lsn, info.pointer)?;
-        found.push_reserved(Found {
+    let mut made = first_held(&found, alloc);
+    for info in &infos[1..] {
+        let (kind, payload) = sticky_log.read_to(pid, info.lsn, info.pointer, &mut space)?;
+        let found = Found {
             kind,
-            payload,
+            payload: payload.bytes(&space),
             pointer: info.pointer,
-        });
+        };
+        made = with_link(made, &found, alloc);
     }
-    Ok(found)
+    made
 }

@@ -1,29 +1,21 @@
 //! The reading of a page that doesn't lie in memory.
 
-ghost use Rattle.std.specs.Prelude.{◌≡◌, ◌<◌, ℕ, false, true, length, map, IfOk, IfErr, IsOk, OnOk, OnErr};
+ghost use Rattle.std.specs.Prelude.{◌≡◌, ◌<◌, false, true, length, IfErr, IsOk, OnOk, OnErr};
 ghost use Rattle.sled_base.specs.declared.types.Refusal.TheVariants as refusal;
-ghost use Rattle.sled_log.specs.Chains.{is_empty};
-ghost use Rattle.sled_log.specs.Contents as content;
-ghost use Rattle.sled_log.specs.Messages.{effect_of_entry, messages_of};
+ghost use Rattle.sled_log.specs.Messages.{effect_of_entry};
 ghost use Rattle.sled_log.specs.LogState.{now};
-ghost use Rattle.sled_log.specs.Pages.{said_of};
-ghost use Rattle.sled_log.specs.Reading.{Makes};
 ghost use Rattle.sled_pagecache.specs.Cache.{chain_at};
 ghost use Rattle.sled_pagecache.specs.Inside.LinkWrites.{PutsLink};
 ghost use Rattle.sled_pagecache.specs.Inside.PageEntry.{IsKept, is_resident};
 ghost use Rattle.sled_pagecache.specs.Table.{is_free};
-ghost use Rattle.sled_pagecache.specs.Infos.{place_of};
-ghost use Rattle.sled_pagecache.specs.Inside.PageIn.{PullsPage, RefusesPull};
-ghost use Rattle.sled_pagecache.specs.Inside.Sizes.{ReadsLog};
+ghost use Rattle.sled_pagecache.specs.Inside.PageIn.{PullsPage};
 ghost use Rattle.sled_pagecache.specs.Inside.Invariant.{IsFreeOrNode};
 ghost use Rattle.sled_pagecache.specs.Inside.RecentUse.{IsListedAt, AccessesNode};
 ghost use Rattle.sled_pagecache.specs.declared.pagecache.table.page.Kept.TheVariants as kept;
 
 use crate::pagecache::memory::accesses::Accesses;
-use crate::pagecache::memory::chain::read_chain;
-use crate::pagecache::memory::reading::held_of;
-use crate::pagecache::table::held::HeldNode;
-use crate::pagecache::table::page::{CacheInfo, Kept, Page, total_size};
+use crate::pagecache::memory::chain::read_node;
+use crate::pagecache::table::page::{Kept, Page, total_size};
 use crate::pagecache::write::sticky_log::StickyLog;
 use crate::pagecache::write::swap::link_page;
 use sled_base::{PageId, Refusal};
@@ -48,31 +40,6 @@ pub(crate) fn pull<L: Log>(
         page.kept = Kept::Node(read_node(alloc, sticky_log, pid, page.cache_infos())?);
     }
     Ok(())
-}
-
-// Reads the node of a page from the log, by one read for each of its messages.
-pub(crate) fn read_node<L: Log>(
-    alloc: Global,
-    sticky_log: &mut StickyLog<L>,
-    pid: PageId,
-    infos: &[CacheInfo],
-) -> Result<HeldNode, Refusal>
-    requires ready { sticky_log.old.fault ≡ false }
-    requires usable { (L.state sticky_log.old.log).usable ≡ true }
-    requires some { 0 < length infos.now }
-    requires known { L.tells
-        → map said_of (chain_at (L.state sticky_log.old.log) pid) ≡ map place_of infos.now }
-    requires full { L.tells
-        → is_empty effect_of_entry (chain_at (L.state sticky_log.old.log) pid) ≡ false }
-    ensures read { ReadsLog L.Log sticky_log.old sticky_log.new (length infos.now) result }
-    ensures room { (n : ℕ) → L.is_full sticky_log.new.log n → L.is_full sticky_log.old.log n }
-    ensures made { L.tells → IfOk result (λ node. Makes
-        (messages_of (chain_at (L.state sticky_log.old.log) pid)) (content.Node node)) }
-    ensures refused { L.tells
-        → IfErr result (RefusesPull (chain_at (L.state sticky_log.old.log) pid)) }
-{
-    let found = read_chain(alloc, sticky_log, pid, infos)?;
-    held_of(&found, alloc)
 }
 
 // Reads the node of a page and accesses the page, which takes no memory where it is listed with its size. What a refused access has

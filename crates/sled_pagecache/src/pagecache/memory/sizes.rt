@@ -8,7 +8,7 @@ ghost use Rattle.sled_pagecache.specs.Cache.{chain_at};
 ghost use Rattle.sled_pagecache.specs.Inside.PageEntry.{IsKept};
 ghost use Rattle.sled_pagecache.specs.Inside.Sizes.{IsSizeOf, Weighs, ReadsLog, RefusesAway, RefusesSome, messages_to_read};
 
-use crate::pagecache::memory::pull::read_node;
+use crate::pagecache::memory::chain::read_node;
 use crate::pagecache::table::page::{Kept, Page};
 use crate::pagecache::table::pagetable::PageTable;
 use crate::pagecache::write::sticky_log::StickyLog;

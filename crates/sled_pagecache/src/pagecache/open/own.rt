@@ -1,22 +1,21 @@
 //! The cache's own pages: that of the named roots, and that of the counter.
 
 ghost use Rattle.std.specs.Prelude.{◌≡◌, ◌<◌, ℕ, [], ◌∷◌, ◌++◌, false, true, length, map, IfOk, IfErr, OnOk};
-ghost use Rattle.std.specs.List.{AllZip};
 ghost use Rattle.sled_log.specs.Contents as contents;
 ghost use Rattle.sled_log.specs.Messages.{effect_of_entry, messages_of};
 ghost use Rattle.sled_log.specs.Reading.{IsUpdate, Makes};
 ghost use Rattle.sled_log.specs.LogState.{now};
 ghost use Rattle.sled_node.specs.Meta as meta;
-ghost use Rattle.sled_pagecache.specs.Inside.PageIn.{IsFoundAs};
 ghost use Rattle.sled_pagecache.specs.Cache.{chain_at};
 ghost use Rattle.sled_pagecache.specs.Inside.StickyLog.{IsOfLog};
 ghost use Rattle.sled_pagecache.specs.Inside.Loading.{IsLoaded, IsTable, RefusesOwn, events_of_roots, counter_event, stamps_at_start};
 ghost use Rattle.sled_pagecache.specs.Inside.LogCalls.{Proceeds, refusal_in};
-ghost use Rattle.sled_pagecache.specs.Inside.PageIn.{found_message, RefusesMessage};
+ghost use Rattle.sled_log.specs.Payloads.{payload_in};
+ghost use Rattle.sled_pagecache.specs.Inside.PageIn.{found_message, IsOnly, RefusesMessage};
 ghost use Rattle.sled_pagecache.specs.Memory.{HasRead};
 ghost use Rattle.sled_pagecache.specs.Inside.Invariant.{stamps_in};
 
-use crate::pagecache::memory::chain::read_chain;
+use crate::pagecache::memory::chain::SPACE;
 use crate::pagecache::memory::reading::{Found, whole};
 use crate::pagecache::open::recovered::is_misfit;
 use crate::pagecache::table::infos::Infos;
@@ -25,8 +24,8 @@ use crate::pagecache::table::pagetable::PageTable;
 use crate::pagecache::write::message::{write_counter, write_roots};
 use crate::pagecache::write::sticky_log::StickyLog;
 use crate::pagecache::{COUNTER_PID, META_PID};
-use sled_base::{Bug, MessageKind, PageId, Refusal, Serialize};
-use sled_log::Log;
+use sled_base::{Bug, DiskPtr, MessageKind, PageId, Refusal, Serialize};
+use sled_log::{Log, Payload};
 use sled_node::Meta;
 use std::alloc::Global;
 
@@ -48,8 +47,14 @@ pub(crate) fn read_roots<L: Log>(
         → IfErr result (RefusesOwn 0 (chain_at (L.state sticky_log.old.log) 0)) }
     ensures reads { HasRead L.counts sticky_log.old.log sticky_log.new.log 1 result }
 {
-    let found = read_own(alloc, sticky_log, META_PID, page)?;
-    roots_of(&found[0], alloc)
+    let mut space = [0; SPACE];
+    let (kind, payload, pointer) = read_own(sticky_log, META_PID, page, &mut space)?;
+    let found = Found {
+        kind,
+        payload: payload.bytes(&space),
+        pointer,
+    };
+    roots_of(&found, alloc)
 }
 
 // Reads the counter.
@@ -70,17 +75,23 @@ pub(crate) fn read_counter<L: Log>(
         → IfErr result (RefusesOwn 1 (chain_at (L.state sticky_log.old.log) 1)) }
     ensures reads { HasRead L.counts sticky_log.old.log sticky_log.new.log 1 result }
 {
-    let found = read_own(alloc, sticky_log, COUNTER_PID, page)?;
-    counter_of(&found[0], alloc)
+    let mut space = [0; SPACE];
+    let (kind, payload, pointer) = read_own(sticky_log, COUNTER_PID, page, &mut space)?;
+    let found = Found {
+        kind,
+        payload: payload.bytes(&space),
+        pointer,
+    };
+    counter_of(&found, alloc)
 }
 
-// Reads the one message of a system page. A page that is free, or has more, is refused before.
+// Reads the one message of a system page: its kind, its payload and where it is kept. A page that is free, or has more, is refused before.
 fn read_own<L: Log>(
-    alloc: Global,
     sticky_log: &mut StickyLog<L>,
     pid: PageId,
     page: &Page,
-) -> Result<Vec<Found>, Refusal>
+    space: &mut [u8],
+) -> Result<(MessageKind, Payload, DiskPtr), Refusal>
     requires ready { sticky_log.old.fault ≡ false }
     requires usable { (L.state sticky_log.old.log).usable ≡ true }
     requires own { pid < 2 }
@@ -89,8 +100,8 @@ fn read_own<L: Log>(
     ensures same { L.tells → sticky_log.new.fault ≡ false → now effect_of_entry
         (L.state sticky_log.new.log) ≡ now effect_of_entry (L.state sticky_log.old.log) }
     ensures found { L.tells → IfOk result
-        (λ found. AllZip IsFoundAs (chain_at (L.state sticky_log.old.log) pid) found.items) }
-    ensures one { IfOk result (λ found. length found.items ≡ 1) }
+        (λ found. IsOnly (chain_at (L.state sticky_log.old.log) pid) found.0
+        (payload_in space.new found.1) found.2) }
     ensures refused { L.tells
         → IfErr result (RefusesOwn pid (chain_at (L.state sticky_log.old.log) pid)) }
     ensures reads { HasRead L.counts sticky_log.old.log sticky_log.new.log 1 result }
@@ -98,15 +109,16 @@ fn read_own<L: Log>(
     if is_misfit(pid as usize, page) {
         return Err(Refusal::Corruption(Some(page.first_info().pointer)));
     }
-    let found = read_chain(alloc, sticky_log, pid, page.cache_infos())?;
-    if found[0].kind == MessageKind::Free {
+    let info = page.first_info();
+    let (kind, payload) = sticky_log.read_to(pid, info.lsn, info.pointer, space)?;
+    if kind == MessageKind::Free {
         return Err(Refusal::ReportableBug(Bug::FreeInPull));
     }
-    Ok(found)
+    Ok((kind, payload, info.pointer))
 }
 
 // The root map that a message puts on its page.
-fn roots_of(found: &Found, alloc: Global) -> Result<Meta, Refusal>
+fn roots_of(found: &Found<'_>, alloc: Global) -> Result<Meta, Refusal>
     ensures read { IfOk result
         (λ roots. IsUpdate (found_message found.now) (contents.Put (contents.Roots roots))) }
     ensures refused { IfErr result (RefusesMessage found.now.pointer ((roots : meta.Roots)
@@ -119,7 +131,7 @@ fn roots_of(found: &Found, alloc: Global) -> Result<Meta, Refusal>
 }
 
 // The counter that a message puts on its page.
-fn counter_of(found: &Found, alloc: Global) -> Result<u64, Refusal>
+fn counter_of(found: &Found<'_>, alloc: Global) -> Result<u64, Refusal>
     ensures read { IfOk result
         (λ n. IsUpdate (found_message found.now) (contents.Put (contents.Counter n))) }
     ensures refused { IfErr result (RefusesMessage found.now.pointer ((n : ℕ)

@@ -1,6 +1,6 @@
 //! A node that lies in memory.
 
-ghost use Rattle.std.specs.Prelude.{◌≡◌, IfOk, OnOk, OnErr};
+ghost use Rattle.std.specs.Prelude.{◌≡◌, ◌↔◌, IsTrue, IfOk, OnOk, OnErr};
 ghost use Rattle.sled_node.specs.Sizes.{node_size};
 ghost use Rattle.sled_node.specs.Links.{Accepts, applied};
 
@@ -45,6 +45,25 @@ impl HeldNode {
         ensures { result ≡ node_size self.now }
     {
         self.node.rss()
+    }
+
+    // Whether the link may be applied.
+    pub(crate) fn accepts(&self, link: &Link) -> bool
+        ensures { IsTrue result ↔ Accepts self.now link.now }
+    {
+        self.node.accepts(link)
+    }
+
+    // Applies a link, of which it keeps the key and the value. A refusal leaves the node.
+    pub(crate) fn take(&mut self, link: Link) -> Result<(), AllocError>
+        requires { Accepts self.old link }
+        ensures applied { OnOk result (self.new ≡ applied link self.old) }
+        ensures err { OnErr result (self.new ≡ self.old) }
+    {
+        match link {
+            Link::Set(key, value) => self.node.set_leaf(key, value),
+            link => self.node.apply(&link),
+        }
     }
 
     // Applies a link. A refusal leaves the node.

@@ -12,12 +12,13 @@ ghost use Rattle.sled_log.specs.Events.{Change, Pin};
 ghost use Rattle.sled_log.specs.Limits.{head_size, size_limit};
 ghost use Rattle.sled_log.specs.Messages.{effect_of_entry, message, message_size, placed_entry};
 ghost use Rattle.sled_log.specs.Moves.{HasBlob, message_at};
-ghost use Rattle.sled_log.specs.Pages.{IsAt, IsPageState, IsRead, IsSized};
+ghost use Rattle.sled_log.specs.Pages.{IsAt, IsPageState, IsReadAs, IsSized};
+ghost use Rattle.sled_log.specs.Payloads.{payload_in};
 ghost use Rattle.sled_log.specs.LogState.{now};
 ghost use Rattle.sled_pagecache.specs.Inside.StickyLog.{Went, IsCaused, IsOfLog, begun_by, cache_answer, mark_of};
 
 use sled_base::{BlobPointer, DiskPtr, LogOffset, Lsn, MessageKind, PageId, PageState, Refusal};
-use sled_log::{Log, LogError};
+use sled_log::{Log, LogError, Payload};
 
 /// The log of a cache, whether a batch is open, and whether a write fault was met: then the log is not called any more.
 #[derive(Drop)]
@@ -111,13 +112,14 @@ impl<L: Log> StickyLog<L> {
     }
 
     // Reads a message of a page by its place, which is one of the page's chain: its kind, or the kind of its blob, and its
-    // payload.
-    pub(crate) fn read(
+    // payload, which may be put into the space.
+    pub(crate) fn read_to(
         &mut self,
         pid: PageId,
         lsn: Lsn,
         pointer: DiskPtr,
-    ) -> Result<(MessageKind, Vec<u8>), Refusal>
+        space: &mut [u8],
+    ) -> Result<(MessageKind, Payload), Refusal>
         requires ready { self.old.fault ≡ false }
         requires usable { (L.state self.old.log).usable ≡ true }
         requires known { L.tells → Any (IsAt lsn pointer)
@@ -126,14 +128,14 @@ impl<L: Log> StickyLog<L> {
         ensures cause { IsCaused L.Log self.old self.new ⊥ result }
         ensures sound { L.tells → IfErr result IsOfLog }
         ensures reads { (L.counts self.new.log).reads ≡ one_more (L.counts self.old.log).reads }
-        ensures found { L.tells
-            → IfOk result (λ found. All (λ entry. IsAt lsn pointer entry → IsRead entry found)
+        ensures found { L.tells → IfOk result (λ found. All (λ entry. IsAt lsn pointer entry
+            → IsReadAs entry found.0 (payload_in space.new found.1))
             (slice_index_or (now effect_of_entry (L.state self.old.log)) pid [])) }
         ensures room { (n : ℕ) → L.is_full self.new.log n → L.is_full self.old.log n }
         ensures same { L.tells → self.new.fault ≡ false → now effect_of_entry (L.state self.new.log)
             ≡ now effect_of_entry (L.state self.old.log) }
     {
-        let outcome = self.log.read(pid, lsn, pointer);
+        let outcome = self.log.read_to(pid, lsn, pointer, space);
         keep_fault(&mut self.fault, outcome)
     }
 

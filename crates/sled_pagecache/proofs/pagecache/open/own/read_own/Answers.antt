@@ -1,8 +1,7 @@
-use Rattle.sled_pagecache.proofs.Names.{CacheInfo, map-at, AllZip-long, IsFoundAs, ◌∷◌, ◌≡◌, [], length, Some, sym, ◌∙◌, ap, arith, rules, Corruption, chain_at}
-use Rattle.sled_pagecache.proofs.KeptPages.{kept-long}
-use Rattle.sled_pagecache.proofs.OwnPages.{misfit-unfit, first-pointer, fits-one, sole-found}
+use Rattle.sled_pagecache.proofs.Names.{CacheInfo, SFits, [], map-at, Some, sym, ◌∙◌, rules, of_z, to_z, to_z-of_z, w64, Corruption, chain_at}
+use Rattle.sled_log.specs.Payloads.{payload_in}
+use Rattle.sled_pagecache.proofs.OwnPages.{misfit-unfit, first-pointer, fits-one, only-full, only-known, only-read}
 use Rattle.sled_pagecache.proofs.Proceeding.{proceeds-not}
-use Rattle.sled_pagecache.proofs.Pulls.{begins-full}
 use Rattle.sled_pagecache.proofs.Standing.{kept-free}
 use Rattle.sled_pagecache.proofs.pagecache.open.own.read_own.Goals as goal
 
@@ -19,22 +18,35 @@ returns-then-is_misfit-clause-refused g c = λ told.
       first-pointer chain page.infos.items c.first_info.result.pointer (c.requires.loaded told).kept.at (map-at (λ (info : CacheInfo). info.pointer) page.infos.items 0 c.first_info.result c.first_info.ensures),
     )
 
-pub index-requires : goal.index-requires
-index-requires g c =
-    let one : length c.in_ok-found.found.items ≡ 1 =
-    c.in_ok-found.ensures.len ∙ ap length c.cache_infos.ensures ∙ (fits-one c.args.pid c.args.page.now c.requires.own (search rules) (sym c.is_misfit.ensures ∙ c.if-is_misfit.false)).0 in
-    omega (arith, one, c.in_ok-found.found.ok.0)
+-- the page has one message, which the log holds where the page keeps it
+pub read_to-requires-clause-known : goal.read_to-requires-clause-known
+read_to-requires-clause-known g c = λ told.
+    let chain = chain_at (g.L.Log.state c.args.sticky_log.now.log) c.args.pid in
+    let page = c.args.page.now in
+    let info : CacheInfo = c.first_info-info.result in
+    let fits : SFits w64 info.lsn = search rules in
+    let sole = fits-one c.args.pid page c.requires.own (search rules) (sym c.is_misfit.ensures ∙ c.if-is_misfit.false) in
+    only-known chain page.infos.items info (to_z w64 (of_z w64 info.lsn)) ((c.requires.loaded told).kept.places sole.1) sole.0 c.first_info-info.ensures (to_z-of_z w64 info.lsn fits)
 
 pub returns-then-eq-clause-refused : goal.returns-then-eq-clause-refused
 returns-then-eq-clause-refused g c = λ told.
     let chain = chain_at (g.L.Log.state c.args.sticky_log.now.log) c.args.pid in
     let page = c.args.page.now in
+    let info : CacheInfo = c.first_info-info.result in
+    let fits : SFits w64 info.lsn = search rules in
+    let sole = fits-one c.args.pid page c.requires.own (search rules) (sym c.is_misfit.ensures ∙ c.if-is_misfit.false) in
     let loaded = c.requires.loaded told in
-    let zip = c.in_ok-found.ensures.found told in
-    let sole = fits-one c.args.pid c.args.page.now c.requires.own (search rules) (sym c.is_misfit.ensures ∙ c.if-is_misfit.false) in
-    let one = sole-found chain c.in_ok-found.found.items c.index.result.now zip (AllZip-long IsFoundAs chain c.in_ok-found.found.items zip ∙ kept-long chain page loaded.kept ∙ sole.0) (search rules) in
-    begins-full chain (c.index.result.now ∷ []) one (kept-free chain page.kept loaded.kept.holds ∙ sole.1) (search rules)
+    let bytes = payload_in c.read_to.new.space c.in_ok-kind.payload in
+    let only =
+    only-read chain page.infos.items info (to_z w64 (of_z w64 info.lsn)) (loaded.kept.places sole.1) sole.0 c.first_info-info.ensures (to_z-of_z w64 info.lsn fits) c.in_ok-kind.kind bytes (c.in_ok-kind.ensures.found told) in
+    only-full chain c.in_ok-kind.kind bytes info.pointer only (kept-free chain page.kept loaded.kept.holds ∙ sole.1) (search rules)
 
-pub returns-clause-one : goal.returns-clause-one
-returns-clause-one g c =
-    c.in_ok-found.ensures.len ∙ ap length c.cache_infos.ensures ∙ (fits-one c.args.pid c.args.page.now c.requires.own (search rules) (sym c.is_misfit.ensures ∙ c.if-is_misfit.false)).0
+pub returns-clause-found : goal.returns-clause-found
+returns-clause-found g c = λ told.
+    let chain = chain_at (g.L.Log.state c.args.sticky_log.now.log) c.args.pid in
+    let page = c.args.page.now in
+    let info : CacheInfo = c.first_info-info.result in
+    let fits : SFits w64 info.lsn = search rules in
+    let sole = fits-one c.args.pid page c.requires.own (search rules) (sym c.is_misfit.ensures ∙ c.if-is_misfit.false) in
+    only-read chain page.infos.items info (to_z w64 (of_z w64 info.lsn)) ((c.requires.loaded told).kept.places sole.1) sole.0 c.first_info-info.ensures (to_z-of_z w64 info.lsn fits)
+    c.in_ok-kind.kind (payload_in c.read_to.new.space c.in_ok-kind.payload) (c.in_ok-kind.ensures.found told)

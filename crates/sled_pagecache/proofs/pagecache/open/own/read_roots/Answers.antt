@@ -1,16 +1,23 @@
-use Rattle.sled_pagecache.proofs.Names.{IfOk-weaker, IfErr-weaker, [], ◌∷◌, refl, Roots, chain_at}
-use Rattle.sled_pagecache.proofs.OwnPages.{sole-found, one-made, refuses-one}
-use Rattle.sled_pagecache.proofs.Pulls.{makes-found}
+use Rattle.sled_pagecache.proofs.Names.{IfOk-weaker, IfErr-weaker, Roots, chain_at}
+use Rattle.sled_pagecache.proofs.OwnPages.{only-lent, only-made, only-makes, refuses-only}
+use Rattle.sled_pagecache.proofs.Pulls.{judged-reads}
+use Rattle.sled_log.specs.Payloads.{payload_in}
 use Rattle.sled_pagecache.proofs.pagecache.open.own.read_roots.Goals as goal
 
 pub returns-clause-read : goal.returns-clause-read
 returns-clause-read g c = λ told.
     let chain = chain_at (g.L.Log.state c.args.sticky_log.now.log) 0 in
-    let sole = sole-found chain c.in_ok-found.found.items c.index.result.now (c.in_ok-found.ensures.found told) c.in_ok-found.ensures.one c.index.ensures in
-    IfOk-weaker c.roots_of.result _ _ (λ roots reads. makes-found chain (c.index.result.now ∷ []) (Roots roots) sole (Roots roots, reads, refl)) c.roots_of.ensures.read
+    let only = only-lent chain c.in_ok-kind.kind (payload_in c.read_own.new.space c.in_ok-kind.payload) c.bytes.result.now c.in_ok-kind.pointer (c.in_ok-kind.ensures.found told) c.bytes.ensures in
+    IfOk-weaker c.roots_of.result _ _ (λ said is. only-makes chain c.in_ok-kind.kind c.bytes.result.now c.in_ok-kind.pointer only (Roots said) is) c.roots_of.ensures.read
 
 pub returns-clause-refused : goal.returns-clause-refused
 returns-clause-refused g c = λ told.
     let chain = chain_at (g.L.Log.state c.args.sticky_log.now.log) 0 in
-    let sole = sole-found chain c.in_ok-found.found.items c.index.result.now (c.in_ok-found.ensures.found told) c.in_ok-found.ensures.one c.index.ensures in
-    IfErr-weaker c.roots_of.result _ _ (refuses-one chain c.index.result.now sole 0 _ (λ amiss fit. amiss fit.0 (one-made chain c.index.result.now (Roots fit.0) sole fit.1))) c.roots_of.ensures.refused
+    let only = only-lent chain c.in_ok-kind.kind (payload_in c.read_own.new.space c.in_ok-kind.payload) c.bytes.result.now c.in_ok-kind.pointer (c.in_ok-kind.ensures.found told) c.bytes.ensures in
+    IfErr-weaker c.roots_of.result _ _
+    (refuses-only chain c.in_ok-kind.kind c.bytes.result.now c.in_ok-kind.pointer only 0 _ (λ amiss fit. amiss fit.0 (only-made chain c.in_ok-kind.kind c.bytes.result.now c.in_ok-kind.pointer only (Roots fit.0) fit.1)))
+    c.roots_of.ensures.refused
+
+pub returns-clause-reads : goal.returns-clause-reads
+returns-clause-reads g c =
+    judged-reads g.L.Log c.args.sticky_log.now c.read_own.new.sticky_log c.roots_of.result (c.in_ok-kind.kind, c.in_ok-kind.payload, c.in_ok-kind.pointer) 1 c.in_ok-kind.ensures.reads

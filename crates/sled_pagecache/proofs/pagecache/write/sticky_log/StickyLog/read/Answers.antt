@@ -1,9 +1,0 @@
-use Rattle.sled_pagecache.proofs.Names.{refl, rules}
-use Rattle.sled_pagecache.proofs.StickyLogs.{quiet}
-use Rattle.sled_pagecache.proofs.pagecache.write.sticky_log.StickyLog.read.Goals as goal
-
-pub returns : goal.returns
-returns g c =
-    let new = record c.args.self.now { log = c.read-outcome.new.self; fault = c.keep_fault.new.fault } in
-    let done = quiet g.L.Log c.args.self.now new c.read-outcome.ensures.called c.requires.ready c.keep_fault.ensures.kept refl in
-    search (rules, done)
