@@ -1,9 +1,11 @@
 //! A node that lies in memory.
 
-ghost use Rattle.std.specs.Prelude.{◌≡◌, ◌↔◌, IsTrue, IfOk, OnOk, OnErr};
+ghost use Rattle.std.specs.Prelude.{◌≡◌, ◌↔◌, length, IsTrue, IfOk, OnOk, OnErr};
 ghost use Rattle.sled_node.specs.Sizes.{node_size};
 ghost use Rattle.sled_node.specs.Links.{Accepts, applied};
+ghost use Rattle.sled_node.specs.Payloads.Nodes.{written_node};
 
+use sled_base::Serialize;
 use sled_node::{Link, Node};
 use std::alloc::{AllocError, Global};
 use std::marker::Model;
@@ -38,6 +40,15 @@ impl HeldNode {
         ensures { result.now ≡ self.now }
     {
         &self.node
+    }
+
+    // How many bytes it is written in.
+    pub(crate) fn written_size(&self) -> u64
+        ensures { result ≡ length (written_node self.now) }
+    {
+        // Every node is well-formed.
+        let _ = self.node.data();
+        self.node.serialized_size()
     }
 
     // How much it takes.

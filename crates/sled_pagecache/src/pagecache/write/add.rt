@@ -13,7 +13,7 @@ use crate::pagecache::table::page::{Kept, Page};
 use crate::pagecache::table::pagetable::PageTable;
 use crate::pagecache::write::message::write_node;
 use crate::pagecache::write::sticky_log::StickyLog;
-use sled_base::{PageId, Refusal, Serialize, Why};
+use sled_base::{PageId, Refusal, Why};
 use sled_log::Log;
 use sled_node::Node;
 use std::alloc::Global;
@@ -42,10 +42,10 @@ pub(crate) fn add_page<L: Log>(
     let Ok(()) = pages.reserve() else {
         return Err(Refusal::OutOfMemory);
     };
-    let size = node.serialized_size();
     let Ok(held) = HeldNode::new(alloc, node) else {
         return Err(Refusal::OutOfMemory);
     };
+    let size = held.written_size();
     let Ok(()) = accesses.access(pid, size_with(0, size)) else {
         return Err(Refusal::OutOfMemory);
     };

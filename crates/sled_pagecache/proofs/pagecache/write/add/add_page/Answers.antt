@@ -1,4 +1,4 @@
-use Rattle.sled_pagecache.proofs.Names.{ap, inl, inr, subst, sym, ◌+◌, ◌≡◌, [], ◌∷◌, length, ◌∙◌, refl, rules, arith, le-leb, effect_of_entry, now, Node, Put, message_of, written-update, PagesUsedUp, head_size, WasAccessed, capped_size, refused-is}
+use Rattle.sled_pagecache.proofs.Names.{inl, inr, subst, sym, ◌+◌, ◌≡◌, [], ◌∷◌, length, ◌∙◌, refl, rules, arith, le-leb, effect_of_entry, now, Node, Put, message_of, written-update, PagesUsedUp, head_size, WasAccessed, capped_size, refused-is}
 use Rattle.sled_pagecache.proofs.InMemory.{accessed-added}
 use Rattle.sled_pagecache.proofs.Sizes.{size-alone}
 use Rattle.sled_pagecache.proofs.NewPages.{made-new, has-one-more}
@@ -45,7 +45,7 @@ returns g c =
     let pages = c.push_reserved.new.self.pages in
     let held = c.in-Ok-new.held in
     let payload = length (message_of (Put (Node held))).payload in
-    let takes : capped_size c.size_with.result ≡ capped_size (head_size + payload) = omega (arith, c.size_with.ensures, c.serialized_size-size.ensures, ap (λ node. length (message_of (Put (Node node))).payload) c.in-Ok-new.ensures) in
+    let takes : capped_size c.size_with.result ≡ capped_size (head_size + payload) = omega (arith, c.size_with.ensures, c.written_size-size.ensures) in
     let alone : infos ≡ info ∷ [] = c.one.ensures in
     let new = λ (told : g.L.Log.tells). made-new _ c.len-pid.result (at ∙ c.requires.there told) _ held info (wrote.chains told) _ refl alone c.in_ok-info.ensures.is in
     let page = has-one-more g.L.Log.tells _ held info c.args.pages.now.pages c.reserve.new.self.pages pages _ c.reserve.ensures.same c.push_reserved.ensures refl refl alone wrote.at (λ told. (new told).1) in
