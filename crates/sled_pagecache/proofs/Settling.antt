@@ -1,5 +1,5 @@
 -- What holds of a cache holds of it once what the list of recent use dropped is paged out, and what a call makes of memory then.
-use Rattle.sled_pagecache.proofs.Names.{IsDoneInEach, Outcome, ◌++◌, [], ◌∷◌, append-nil, left_pages, Contains-append_cases, Contains-append_left, Contains-append_right, eqb_tells, Vec, Contains, IfOk, IsSomeAnd, OnOk, OnErr, Recency, IsAccessed, IsListed, IsSound, rounded, itself_stays, itself_is_listed, others_stay_or_leave, ◌≡◌, ◌≢◌, ◌⊎◌, inl, inr, ℕ, Bool, true, false, List, Option, Some, None, Result, Ok, Err, refl, sym, ◌∙◌, ap, subst, same_Some, IsErrOf, Error, Write, Refusal, Ghosts, Keeps, Cache, Represents, IsAway, chain_length, IsBlamed, IsCaused, is_reserved, ReadsNothing, ReadsPage, ReportsDamage, BringsIn, sticky_log_of, Logged, State, count_after, WasAccessed, HasNode, HasNoNode, AreSized, IsBounded, StaysAt, KeepsMemory, AccessesPage, FindsPage, EvictsAtMost, LeavesPages, AllStay, TakesNode, TakesPage, FindsNode, LosesAtMost, Accesses}
+use Rattle.sled_pagecache.proofs.Names.{IsDoneInEach, Outcome, ◌++◌, [], ◌∷◌, append-nil, left_pages, Contains-append_cases, Contains-append_left, Contains-append_right, eqb_tells, Contains, IfOk, IsSomeAnd, OnOk, OnErr, Recency, IsAccessed, IsListed, IsSound, rounded, itself_stays, itself_is_listed, others_stay_or_leave, ◌≡◌, ◌≢◌, ◌⊎◌, inl, inr, ℕ, Bool, true, false, List, Option, Some, None, Result, Ok, Err, refl, sym, ◌∙◌, ap, subst, same_Some, IsErrOf, Error, Write, Refusal, Ghosts, Keeps, Cache, Represents, IsAway, chain_length, IsBlamed, IsCaused, is_reserved, ReadsNothing, ReadsPage, ReportsDamage, BringsIn, sticky_log_of, Logged, State, count_after, WasAccessed, HasNode, HasNoNode, AreSized, IsBounded, StaysAt, KeepsMemory, AccessesPage, FindsPage, EvictsAtMost, LeavesPages, AllStay, TakesNode, TakesPage, FindsNode, LosesAtMost, Accesses}
 use Rattle.sled_base.specs.Containing.{contains_cases, contains_first, contains_none}
 use Rattle.sled_base.specs.declared.types.Error.TheVariants.{Io}
 use Rattle.sled_base.specs.declared.types.Refusal.TheVariants as refusal
@@ -159,11 +159,11 @@ module _ {L : Type 0} {g : Ghosts L} {old mid new : Cache L} {accesses between :
     drops : (size : ℕ) → WasAccessed accesses pid size between → IsDropped size
     drops size was = by between.dropped was.is settles.out
       where
-        by : (dropped : Option (Vec ℕ)) → IsSomeAnd dropped (λ dropped. IsAccessed pid (rounded size) accesses.lru between.lru dropped.items) → PagesOut (Contains (left_pages dropped lost)) mid new → IsDropped size
+        by : (dropped : Option (List ℕ)) → IsSomeAnd dropped (λ dropped. IsAccessed pid (rounded size) accesses.lru between.lru dropped) → PagesOut (Contains (left_pages dropped lost)) mid new → IsDropped size
         by None is out = absurd is
         by (Some dropped) is out = record {
-          dropped = dropped.items;
-          is = subst (λ lru. IsAccessed pid (rounded size) lru new.lru dropped.items) settles.lists (subst (λ lru. IsAccessed pid (rounded size) accesses.lru lru dropped.items) (sym settles.lru) is);
+          dropped = dropped;
+          is = subst (λ lru. IsAccessed pid (rounded size) lru new.lru dropped) settles.lists (subst (λ lru. IsAccessed pid (rounded size) accesses.lru lru dropped) (sym settles.lru) is);
           sound = subst IsSound (sym settles.lru) was.sound;
           out = out;
         }

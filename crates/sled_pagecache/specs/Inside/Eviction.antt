@@ -1,5 +1,4 @@
 -- What leaves memory behind a call, beside the table of pages.
-use Rattle.std.specs.Global.{Vec}
 use Rattle.std.specs.Prelude.{◌≡◌, ℕ, Bool, true, List, [], ◌∷◌, ◌++◌, Option, None, Some, Result, Ok, Err, MatchOption, slice_get, slice_set}
 use Rattle.sled_base.specs.Errors.{error_of}
 use Rattle.sled_base.specs.declared.types.Error.{Error}
@@ -46,9 +45,9 @@ lost_pages None = []
 lost_pages (Some pid) = pid ∷ []
 
 -- what the list dropped, if a page was accessed, and with it those that are lost
-abbrev pub left_pages : Option (Vec ℕ) → List ℕ → List ℕ
+abbrev pub left_pages : Option (List ℕ) → List ℕ → List ℕ
 left_pages None lost = []
-left_pages (Some dropped) lost = dropped.items ++ lost
+left_pages (Some dropped) lost = dropped ++ lost
 
 -- These were paged out.
 pub record Evicts (accesses : Accesses) (lost : Option ℕ) (old new : List Page) (then : Accesses) : Type 0 where

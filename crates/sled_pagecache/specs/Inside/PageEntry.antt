@@ -22,7 +22,7 @@ capped_size size = min size (2 ^ 63)
 
 -- The page was accessed with this size, and what the list dropped for it is known.
 pub record WasAccessed (old : Accesses) (pid size : ℕ) (new : Accesses) : Type 0 where
-  pub is : IsSomeAnd new.dropped (λ dropped. IsAccessed pid (rounded size) old.lru new.lru dropped.items)
+  pub is : IsSomeAnd new.dropped (λ dropped. IsAccessed pid (rounded size) old.lru new.lru dropped)
   pub sound : IsSound new.lru
 
 -- nothing was accessed, or the page was, with some size

@@ -31,7 +31,7 @@ mod swaps;
 pub(crate) mod trees;
 
 use super::handles::config::Config;
-use super::memory::accesses::Accesses;
+use super::memory::accesses::{Accesses, Dropped};
 use super::open::start::open;
 use super::table::free::FreeIds;
 use super::table::pagetable::PageTable;
@@ -133,7 +133,10 @@ impl<L: Log> PageCache<L> {
                 pages: opening.pages,
                 free: opening.free,
                 sticky_log,
-                accesses: Accesses { lru, dropped: None },
+                accesses: Accesses {
+                    lru,
+                    dropped: Dropped::none(alloc),
+                },
             }),
             Err(refusal) => Err((Error::from(refusal), sticky_log.log)),
         }

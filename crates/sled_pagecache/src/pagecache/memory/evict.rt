@@ -77,8 +77,9 @@ pub(crate) fn end_move(
 pub(crate) fn evict(pages: &mut PageTable, accesses: &mut Accesses, lost: Option<PageId>)
     ensures { Evicts accesses.old lost pages.old.pages pages.new.pages accesses.new }
 {
-    if let Some(dropped) = accesses.dropped.take() {
-        page_out(pages, &dropped);
+    if let Some(dropped) = accesses.dropped.ids() {
+        page_out(pages, dropped);
+        accesses.dropped.forget();
         if let Some(pid) = lost {
             page_out_at(pages, pid);
         }

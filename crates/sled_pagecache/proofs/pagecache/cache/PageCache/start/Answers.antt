@@ -21,7 +21,7 @@ invariant_of-result g c =
     let done = c.in-Ok-open.ensures in
     record {
       whole = record { consistent = done.consistent; positive = positive c.args.config (sym c.fault.ensures ∙ c.in_default.is); counted = done.counted };
-      none = refl;
+      none = c.none.ensures;
       bounded = opened-bounded g.L.Log _ _ _ _ _ _ _ done.consistent done.unread c.in-Ok.ensures.empty c.in-Ok.ensures.sound;
     }
 
