@@ -41,13 +41,27 @@ impl Targets {
         self.heap.is_empty()
     }
 
-    /// Names a place. An error means out of memory, and leaves the places unchanged.
+    // Whether it is the nearest place, so that naming it again says nothing.
+    fn is_nearest(&self, target: u64) -> bool
+        ensures { result ≡ true → (test : ℕ → Bool)
+            → list_all test self.now ≡ (test target && list_all test self.now) }
+    {
+        match self.heap.peek() {
+            Some(Reverse(nearest)) => *nearest == target,
+            None => false,
+        }
+    }
+
+    /// Names a place. An error means out of memory, and leaves the places unchanged. Marks that name the nearest place, one after
+    /// another, take the room of one.
     pub(crate) fn push(&mut self, target: u64) -> Result<(), AllocError>
         ensures named { OnOk result ((test : ℕ → Bool)
             → list_all test self.new ≡ (test target && list_all test self.old)) }
         ensures kept { OnErr result (self.new ≡ self.old) }
     {
-        self.heap.push(Reverse(target))?;
+        if !self.is_nearest(target) {
+            self.heap.push(Reverse(target))?;
+        }
         Ok(())
     }
 

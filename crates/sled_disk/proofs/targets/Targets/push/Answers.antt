@@ -7,8 +7,8 @@ use Rattle.std.specs.Prelude.{◌&&◌}
 use Rattle.sled_disk.proofs.Reached.{all-permutation}
 use Rattle.sled_disk.proofs.targets.Targets.push.Goals as goal
 
-pub returns-clause-named : goal.returns-clause-named
-returns-clause-named c = λ test.
+pub returns-in_ok-push-clause-named : goal.returns-in_ok-push-clause-named
+returns-in_ok-push-clause-named c = λ test.
     let old = heap_items c.self.inside.heap in
     let new = heap_items c.push.new.self in
     let place = λ (x : Reverse ℕ). x.0 in
