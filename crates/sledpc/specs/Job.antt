@@ -1,5 +1,5 @@
 -- What the words of the program ask for, and the cache that it opens.
-use Rattle.std.specs.Prelude.{◌≡◌, ℕ, ◌<◌, ◌≤◌, ◌⊎◌, false, List, [], ◌∷◌, ◌++◌, Option, None, Some, codes}
+use Rattle.std.specs.Prelude.{◌≡◌, ℕ, ◌<◌, ◌≤◌, ◌⊎◌, false, List, [], ◌∷◌, ◌++◌, Option, None, Some, Result, Ok, Err, ⊤, codes}
 use Rattle.std.specs.Fmt.{decimal}
 use Rattle.sled_base.specs.Order.{Bytes}
 use Rattle.sled_log.specs.contracts.memory.calls.MemLogLog.TheImpl as mem
@@ -10,6 +10,8 @@ use Rattle.sled_pagecache.specs.Opening.{opened_state}
 use Rattle.sled_pagecache.specs.declared.pagecache.handles.config.Config.{Config}
 use Rattle.sledpc.specs.declared.program.Job.{Job}
 use Rattle.sledpc.specs.declared.program.Job.TheVariants as job
+use Rattle.sledpc.specs.declared.program.NoWords.{NoWords}
+use Rattle.sledpc.specs.declared.program.NoWords.TheVariants.{NoText, Memory}
 
 -- the script: over a log in memory by one word, or over the log in a file by two
 abbrev pub AskForScript : Option (List Bytes) → Type 0
@@ -28,6 +30,12 @@ AskForCrew workers calls (Some words) = (first second : Bytes) × (words ≡ cod
 -- one of these
 abbrev pub AskForJob : Option (List Bytes) → Type 0
 AskForJob words = AskForScript words ⊎ ((workers : ℕ) × (calls : ℕ) × AskForCrew workers calls words)
+
+-- none of these, or they are no text; where an allocation failed for them it isn't known
+abbrev pub AskForNone : Result (List Bytes) NoWords → Type 0
+AskForNone (Ok words) = ¬ AskForJob (Some words)
+AskForNone (Err NoText) = ⊤
+AskForNone (Err Memory) = ⊥
 
 -- the words ask for this job
 abbrev pub AskFor : Job → Option (List Bytes) → Type 0

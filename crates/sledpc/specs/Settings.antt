@@ -21,13 +21,17 @@ piece_room = 8192
 abbrev pub entry_room : ℕ
 entry_room = 160
 
--- the status where what the words ask for was done, where they are wrong, and where they are right that of what they ask for
+-- the status where what the words ask for was done, where that or the reading of them failed, and where they are wrong; and where they
+-- are right that of what they ask for
 abbrev pub ended : ℕ
 ended = 0
+
+abbrev pub failed : ℕ
+failed = 1
 
 abbrev pub wrong_words : ℕ
 wrong_words = 2
 
 abbrev pub status_of : {E : Type 0} → Result Unit E → ℕ
 status_of (Ok done) = ended
-status_of (Err fault) = 1
+status_of (Err fault) = failed

@@ -15,16 +15,21 @@ mod piece;
 mod program;
 mod script;
 
-use program::drive;
+use program::{NoWords, drive};
 use std::env;
+use std::io::ErrorKind;
 use std::process::ExitCode;
 
 fn main(rt: HostRuntime) -> ExitCode {
     let words = words_of(&rt);
+    let words = match &words {
+        Ok(words) => Ok(words.as_slice()),
+        Err(none) => Err(*none),
+    };
     let status = drive(
         rt,
         rt.alloc(),
-        words.as_ref().map(|words| words.as_slice()),
+        words,
         &mut rt.reader(),
         &mut rt.stdout(),
         &mut rt.stderr(),
@@ -32,10 +37,17 @@ fn main(rt: HostRuntime) -> ExitCode {
     ExitCode::from(status)
 }
 
-// The words after the program's own path, or none where they are no text.
-fn words_of(rt: &HostRuntime) -> Option<Vec<String>> {
-    let words = env::args(rt).ok()?;
-    words.skip(1).collect(rt.alloc()).ok()
+// The words after the program's own path.
+fn words_of(rt: &HostRuntime) -> Result<Vec<String>, NoWords> {
+    let words = match env::args(rt) {
+        Ok(words) => words,
+        Err(error) if error.kind() == ErrorKind::OutOfMemory => return Err(NoWords::Memory),
+        Err(_) => return Err(NoWords::NoText),
+    };
+    words
+        .skip(1)
+        .collect(rt.alloc())
+        .map_err(|_| NoWords::Memory)
 }
 
 #[cfg(test)]

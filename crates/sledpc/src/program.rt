@@ -1,13 +1,14 @@
 //! The program: its words, its streams and its status.
 
-ghost use Rattle.std.specs.Prelude.{◌≡◌, ◌↔◌, ℕ, ◌*◌, ◌+◌, ◌≤◌, [], true, false, map, Some, IfOk, IfSome, IfNone};
+ghost use Rattle.std.specs.Prelude.{◌≡◌, ◌↔◌, ℕ, ◌*◌, ◌+◌, ◌≤◌, [], true, false, map, Some, IfOk, IfSome, IfNone, IsErrOf};
 ghost use Rattle.std.specs.Option.{option_map};
+ghost use Rattle.std.specs.Result.{result_ok, result_map_both};
 ghost use Rattle.std.specs.String.{string_bytes};
 ghost use Rattle.std.specs.Io.KnownBytes.{Appends};
 ghost use Rattle.sled_log.specs.MemLog.State.{state_of, settings_of};
-ghost use Rattle.sledpc.specs.Job.{AskFor, AskForCrew, AskForJob, EncodeCrew, IsNew, crew_text};
+ghost use Rattle.sledpc.specs.Job.{AskFor, AskForCrew, AskForJob, AskForNone, EncodeCrew, IsNew, crew_text};
 ghost use Rattle.sledpc.specs.Output.{Writes};
-ghost use Rattle.sledpc.specs.Settings.{settings, log_settings, status_of, ended, wrong_words};
+ghost use Rattle.sledpc.specs.Settings.{settings, log_settings, status_of, ended, failed, wrong_words};
 
 mod crew;
 
@@ -66,6 +67,15 @@ enum Job<'a> {
     Crew(u64, u64),
 }
 
+/// Why there are no words.
+#[derive(Clone, Copy, Debug, PartialEq, Eq)]
+pub enum NoWords {
+    /// Those of the system are no text.
+    NoText,
+    /// An allocation failed for them.
+    Memory,
+}
+
 /// Why a job failed.
 #[derive(Debug, Drop, thiserror::Error)]
 enum Fault {
@@ -78,9 +88,39 @@ enum Fault {
 /// Runs the program, and answers its status: 0 where the script ended, 1 where an opening, a stream or the memory
 /// failed, and 2 where the words are wrong.
 ///
-/// `words` are those after the program's own path, or none where the system's words are no text. What went wrong is
-/// reported to `faults` in one line. With wrong words nothing is opened, and no stream but `faults` is touched.
+/// `words` are those after the program's own path. What went wrong is reported to `faults` in one line. Where there are none, or they
+/// are wrong, nothing is opened, and no stream but `faults` is touched.
 pub fn drive<
+    H: Files<File = File> + Threads + Wait + Copy + Send + 'static,
+    R: Read,
+    W: Write,
+    F: Write,
+>(
+    rt: H,
+    alloc: Global,
+    words: Result<&[String], NoWords>,
+    reader: &mut R,
+    writer: &mut W,
+    faults: &mut F,
+) -> u8
+    ensures wrong { (result ≡ wrong_words) ↔ AskForNone
+        (result_map_both (λ given. map string_bytes given.now) (λ why. why) words.entry) }
+    ensures crew { (workers calls : ℕ)
+        → AskForCrew workers calls (option_map (λ given. map string_bytes given.now)
+        (result_ok words.entry))
+        → result ≡ ended
+        → Appends (W.contents writer.old) (W.contents writer.new) (crew_text (workers * calls)) }
+    ensures memory { IsErrOf words.entry NoWords.Memory → result ≡ failed }
+{
+    match words {
+        Ok(words) => drive_by(rt, alloc, Some(words), reader, writer, faults),
+        Err(NoWords::NoText) => drive_by(rt, alloc, None, reader, writer, faults),
+        Err(NoWords::Memory) => report(Err(Fault::Run(RunError::Memory)), faults),
+    }
+}
+
+// The same where nothing failed for the words, of which there are none where they are no text.
+fn drive_by<
     H: Files<File = File> + Threads + Wait + Copy + Send + 'static,
     R: Read,
     W: Write,

@@ -9,7 +9,7 @@ use std::alloc::AllocError;
 use std::io;
 use std::io::ErrorKind;
 
-const TOLD_USAGE: &[u8] = b"usage: sledpc mem | file PATH | crew N M\n";
+const TOLD_USAGE: &str = "usage: sledpc mem | file PATH | crew N M\n";
 
 const MEM: &[&str] = &["mem"];
 
@@ -58,7 +58,7 @@ fn ends_so<
     let ended = drive(
         rt,
         rt.alloc(),
-        Some(words.as_slice()),
+        Ok(words.as_slice()),
         input,
         output,
         &mut faults,
@@ -162,14 +162,16 @@ fn returns_pair<T: Files<File = File> + AllocGlobal + Threads + Wait + Copy + Se
     put_pair_lines(&mut script, (key, value)).is_ok() && is_replied(rt, &script)
 }
 
-// Whether these words, or such as are no text, are reported as wrong, and no stream is touched.
-fn are_wrong<T: Files<File = File> + AllocGlobal + Threads + Wait + Copy + Send + 'static>(
+// Whether the program with these words, or with none, ends with this status and fault, and no stream is touched.
+fn are_refused<T: Files<File = File> + AllocGlobal + Threads + Wait + Copy + Send + 'static>(
     rt: T,
-    words: Option<&[String]>,
+    words: Result<&[String], NoWords>,
+    status: u8,
+    fault: &str,
 ) -> bool {
     let mut faults = Vec::new(rt.alloc());
-    let status = drive(rt, rt.alloc(), words, &mut Broken, &mut Broken, &mut faults);
-    status == 2 && faults.as_slice() == TOLD_USAGE
+    let ended = drive(rt, rt.alloc(), words, &mut Broken, &mut Broken, &mut faults);
+    ended == status && faults.as_slice() == fault.as_bytes()
 }
 
 fn are_wrong_words<T: Files<File = File> + AllocGlobal + Threads + Wait + Copy + Send + 'static>(
@@ -177,7 +179,7 @@ fn are_wrong_words<T: Files<File = File> + AllocGlobal + Threads + Wait + Copy +
     words: &[&str],
 ) -> bool {
     match texts(rt.alloc(), words) {
-        Ok(words) => are_wrong(rt, Some(words.as_slice())),
+        Ok(words) => are_refused(rt, Ok(words.as_slice()), 2, TOLD_USAGE),
         Err(_) => false,
     }
 }
@@ -187,7 +189,8 @@ fn answers_unreported<T: Files<File = File> + AllocGlobal + Threads + Wait + Cop
 ) -> bool {
     let mut input = b"".as_slice();
     let mut output = Vec::new(rt.alloc());
-    drive(rt, rt.alloc(), None, &mut input, &mut output, &mut Broken) == 2
+    let words = Err(NoWords::NoText);
+    drive(rt, rt.alloc(), words, &mut input, &mut output, &mut Broken) == 2
 }
 
 /// Lengths of a key or a value, beside one byte.
@@ -263,9 +266,14 @@ const WRONG: &[&[&str]] = &[
 
 #[test]
 fn wrong_words_are_reported_and_touch_no_stream(rt: HostRuntime) {
-    assert!(rt; are_wrong(rt, None));
+    assert!(rt; are_refused(rt, Err(NoWords::NoText), 2, TOLD_USAGE));
     assert!(rt; answers_unreported(rt));
     for words in WRONG {
         assert!(rt; are_wrong_words(rt, words));
     }
+}
+
+#[test]
+fn want_of_memory_for_the_words_is_reported_and_touches_no_stream(rt: HostRuntime) {
+    assert!(rt; are_refused(rt, Err(NoWords::Memory), 1, "sledpc: error memory\n"));
 }

@@ -3,8 +3,8 @@ use Rattle.std.proofs.Common.{map, sym, ◌∙◌}
 use Rattle.std.specs.Option.{option_map}
 use Rattle.std.specs.String.{string_bytes}
 use Rattle.sledpc.proofs.Job.{one_job, one_crew, wrote_all}
-use Rattle.sledpc.proofs.program.drive.Goals.{in-Memory, in-OnFile, in-Crew}
-use Rattle.sledpc.proofs.program.drive.Goals as goal
+use Rattle.sledpc.proofs.program.drive_by.Goals.{in-Memory, in-OnFile, in-Crew}
+use Rattle.sledpc.proofs.program.drive_by.Goals as goal
 
 pub returns-clause-crew : goal.returns-clause-crew
 returns-clause-crew g c = λ workers calls crew fine.
