@@ -13,7 +13,7 @@ ghost use Rattle.sled_pagecache.specs.Inside.PageWrites.{Wrote, content_of};
 ghost use Rattle.sled_pagecache.specs.Inside.Rewriting.{Copies, CopiesPage, PutsCopy};
 ghost use Rattle.sled_pagecache.specs.Table.{is_free};
 
-use crate::pagecache::memory::pull::read_node;
+use crate::pagecache::memory::chain::read_node;
 use crate::pagecache::table::page::{CacheInfo, Kept, Page};
 use crate::pagecache::table::pagetable::PageTable;
 use crate::pagecache::write::message::{
