@@ -125,10 +125,20 @@ fn comes_from_array_of(alloc: Global, len: usize) -> Result<bool, AllocError> {
     }
 }
 
-// Whether the string of these bytes and the default one are copied.
+// Whether the string of the first bytes of an array is copied, where these are all of them that it has.
+fn comes_from_front(bytes: &[u8]) -> Result<bool, AllocError> {
+    let mut room = [9; 22];
+    if bytes.len() > room.len() {
+        return Ok(false);
+    }
+    room[..bytes.len()].copy_from_slice(bytes);
+    is_copied(&IVec::from_front(room, bytes.len()), bytes)
+}
+
+// Whether the strings of these bytes and the default one are copied.
 fn is_short(alloc: Global, bytes: &[u8]) -> Result<bool, AllocError> {
-    let default = is_copied(&IVec::default(), &[])?;
-    Ok(is_copied(&IVec::from_slice(alloc, bytes)?, bytes)? && default)
+    let others = is_copied(&IVec::default(), &[])? && comes_from_front(bytes)?;
+    Ok(is_copied(&IVec::from_slice(alloc, bytes)?, bytes)? && others)
 }
 
 // It passes with each allocation failing.
