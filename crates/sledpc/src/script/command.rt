@@ -30,7 +30,19 @@ pub fn leaf_behind(alloc: Global, pairs: Option<&[u8]>) -> Result<Option<Node>, 
     ensures none { IfOk result (λ found. IfNone found ((node : WholeNode)
         → ¬ EncodeLeaf (option_map (λ rest. rest.now) pairs.entry) node)) }
 {
-    let Some(pairs) = pairs_of(alloc, pairs)? else {
+    match pairs {
+        None => Ok(Some(Node::default(alloc))),
+        Some(words) => leaf_in(alloc, words),
+    }
+}
+
+// The leaf of the pairs that these words encode.
+fn leaf_in(alloc: Global, words: &[u8]) -> Result<Option<Node>, AllocError>
+    ensures some { IfOk result (λ found. IfSome found (EncodeLeaf (Some words.now))) }
+    ensures none { IfOk result
+        (λ found. IfNone found ((node : WholeNode) → ¬ EncodeLeaf (Some words.now) node)) }
+{
+    let Some(pairs) = pairs_of(alloc, Some(words))? else {
         return Ok(None);
     };
     leaf_of(alloc, pairs)
