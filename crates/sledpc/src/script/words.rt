@@ -107,7 +107,7 @@ pub fn bytes_of(alloc: Global, word: &[u8]) -> Result<Option<IVec>, AllocError>
         (λ found. IfNone found ((bytes : Bytes) → AreBytes bytes → word.now ≢ bytes_word bytes)) }
 {
     if word == b"-".as_slice() {
-        return Ok(Some(IVec::from_slice(alloc, &[])?));
+        return Ok(Some(IVec::default()));
     }
     if word.is_empty() || word.len() % 2 != 0 {
         return Ok(None);
@@ -115,11 +115,10 @@ pub fn bytes_of(alloc: Global, word: &[u8]) -> Result<Option<IVec>, AllocError>
     let count = word.len() / 2;
     if count <= SHORT {
         let mut room = [0; SHORT];
-        let bytes = &mut room[..count];
-        if !decode(word, bytes) {
+        if !decode(word, &mut room[..count]) {
             return Ok(None);
         }
-        return Ok(Some(IVec::from_slice(alloc, bytes)?));
+        return Ok(Some(IVec::from_front(room, count)));
     }
     let mut bytes = vec![in alloc; 0; count]?;
     if !decode(word, &mut bytes) {
