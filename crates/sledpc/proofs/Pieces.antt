@@ -1,5 +1,5 @@
 -- Texts that are gathered in a piece.
-use Rattle.std.proofs.Common.{◌≡◌, ℕ, ◌+◌, ◌*◌, ◌/◌, ◌%◌, ◌<◌, ◌≤◌, ◌^◌, [], ◌∷◌, ◌++◌, length, length-append, take, length-take-le, get_or, sym, ap, ◌∙◌, arith, append_assoc}
+use Rattle.std.proofs.Common.{◌≡◌, ℕ, ◌+◌, ◌*◌, ◌/◌, ◌%◌, ◌<◌, ◌≤◌, ◌^◌, [], ◌∷◌, ◌++◌, length, length-append, take, length-take-le, get_or, sym, ap, subst, ◌∙◌, arith, append_assoc}
 use Rattle.std.specs.Fmt.{decimal}
 use Rattle.std.proofs.lemmas.Fmt.{decimal_digit, decimal_step_wide, decimal_nonempty, length-decimal-le, length-decimal-le_wide}
 use Rattle.sled_base.specs.Order.{Bytes}
@@ -36,6 +36,28 @@ pub digit_next : (new before : Bytes) (n : ℕ) → n < 10 → new ≡ before ++
 digit_next new before n small last =
     let same : n % 10 ≡ n = omega arith in
     last ∙ ap (λ d. before ++ (48 + d) ∷ []) same ∙ ap (λ l. before ++ l) (sym (decimal_digit n small))
+
+-- the digits but the last two, where there are more
+pub hundreds_fit : (before : Bytes) (n room : ℕ) → 100 ≤ n → n < 10 ^ 64 → length before + length (decimal n) ≤ room → length before + length (decimal (n / 100)) ≤ room
+hundreds_fit before n room large small fits =
+    let same : n / 10 / 10 ≡ n / 100 = omega arith in
+    subst (λ k. length before + length (decimal k) ≤ room) same (tens_fit before (n / 10) room (omega arith) (omega arith) (tens_fit before n room (omega arith) small fits))
+
+-- all digits but the last one, where there are two
+pub two_next : (items new before : Bytes) (n : ℕ) → 10 ≤ n → n < 100 → items ≡ before → new ≡ items ++ (48 + n / 10 % 10) ∷ [] → new ≡ before ++ decimal (n / 10)
+two_next items new before n large small e next = digit_next new before (n / 10) (omega arith) (next ∙ ap (λ l. l ++ (48 + n / 10 % 10) ∷ []) e)
+
+-- and where there are more
+pub more_next : (items new before : Bytes) (n : ℕ) → 100 ≤ n → n < 10 ^ 64 → items ≡ before ++ decimal (n / 100) → new ≡ items ++ (48 + n / 10 % 10) ∷ [] → new ≡ before ++ decimal (n / 10)
+more_next items new before n large small e next =
+    let same : n / 100 ≡ n / 10 / 10 = omega arith in
+    tens_next items new before (n / 10) (omega arith) (omega arith) (e ∙ ap (λ k. before ++ decimal k) same) next
+
+-- there is room for the last digit but one
+pub next_room : (items before : Bytes) (n room : ℕ) → 100 ≤ n → n < 10 ^ 64 → items ≡ before ++ decimal (n / 100) → length before + length (decimal n) ≤ room → length items < room
+next_room items before n room large small e fits =
+    let same : n / 100 ≡ n / 10 / 10 = omega arith in
+    tens_room items before (n / 10) room (omega arith) (omega arith) (e ∙ ap (λ k. before ++ decimal k) same) (tens_fit before n room (omega arith) small fits)
 
 -- ---- byte strings
 

@@ -114,13 +114,16 @@ impl Piece {
         self.put_hex(rest);
     }
 
-    /// Puts a number in decimal digits behind the text, which has room for them.
+    /// Puts a number in decimal digits behind the text, which has room for them. Each call puts two.
     pub fn put_number(&mut self, number: u64)
         requires { length self.old + length (decimal number) ≤ piece_room }
         ensures { self.new ≡ self.old ++ decimal number }
     {
+        if number >= 100 {
+            self.put_number(number / 100);
+        }
         if number >= 10 {
-            self.put_number(number / 10);
+            self.push(b'0' + (number / 10 % 10) as u8);
         }
         self.push(b'0' + (number % 10) as u8);
     }
