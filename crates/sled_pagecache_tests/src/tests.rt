@@ -32,6 +32,7 @@ mod pages;
 mod prefixes;
 mod reads;
 mod recovery;
+mod rewriting;
 mod roots;
 mod scripts;
 mod sizes;

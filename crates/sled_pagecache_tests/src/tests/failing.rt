@@ -55,6 +55,7 @@ fn is_next(count: &mut u64, number: u64) -> bool
 impl FailingLog {
     pub(super) fn new(log: MemLog, trouble: &Trouble) -> FailingLog
         ensures usable { result.faults ≡ 0 }
+        ensures same { result.log ≡ log }
     {
         let (fails_to_read, fails_to_write, full_at, room) = match *trouble {
             Trouble::Never => (0, 0, 0, u64::MAX),

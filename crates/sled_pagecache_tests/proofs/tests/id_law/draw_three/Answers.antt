@@ -3,7 +3,7 @@ use Rattle.std.proofs.Common.{[], ◌∷◌, ◌<◌, ℕ, List, Ok, ap, arith}
 use Rattle.sled_log.specs.LogState.{unplaced_state}
 use Rattle.sled_log.specs.contracts.memory.calls.MemLogLog.TheImpl as mem
 use Rattle.sled_log.specs.declared.memory.MemLog.{MemLog}
-use Rattle.sled_pagecache.specs.Openings.{Opening, Lasted, Crashed, IsRun, KeepIntervals, AreRising}
+use Rattle.sled_pagecache.specs.Openings.{Opening, Lasted, IsRun, KeepIntervals, AreRising}
 use Rattle.sled_pagecache.specs.declared.pagecache.handles.call.Answer.TheVariants.{Generated}
 use Rattle.sled_pagecache.specs.declared.pagecache.handles.call.Call.TheVariants.{GenerateId}
 use Rattle.sled_pagecache_tests.proofs.tests.id_law.draw_three.Goals as goal
@@ -22,10 +22,10 @@ returns c =
     let second = c.in_ok-second.second in
     let third = c.in_ok-third.third in
     let openings : List (Opening MemLog) =
-    Lasted config one.0 ((GenerateId, Generated (Ok first)) ∷ []) one.1 Crashed c.in_ok-first.log
-    ∷ Lasted config two.0 ((GenerateId, Generated (Ok second)) ∷ []) two.1 Crashed c.in_ok-second.log
-    ∷ Lasted config three.0 ((GenerateId, Generated (Ok third)) ∷ []) three.1 Crashed c.in_ok-third._log
+    Lasted config one.0 ((GenerateId, Generated (Ok first)) ∷ []) one.1 one.2 c.in_ok-first.log
+    ∷ Lasted config two.0 ((GenerateId, Generated (Ok second)) ∷ []) two.1 two.2 c.in_ok-second.log
+    ∷ Lasted config three.0 ((GenerateId, Generated (Ok third)) ∷ []) three.1 three.2 c.in_ok-third._log
     ∷ [] in
-    let run : IsRun mem.ghosts c.new.result openings = (one.2, one.3, one.4, (two.2, two.3, two.4, (three.2, three.3, three.4, tt))) in
+    let run : IsRun mem.ghosts c.new.result openings = (one.3, one.4, one.5, (two.3, two.4, two.5, (three.3, three.4, three.5, tt))) in
     let intervals : KeepIntervals 0 openings = (omega arith, (omega arith, (omega arith, tt))) in
     in-order first second third (c.ids_are_given_once.ensures tt c.new.result openings (ap unplaced_state c.new.ensures.state) run intervals)
