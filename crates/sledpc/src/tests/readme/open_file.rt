@@ -3,7 +3,7 @@ use std::alloc::Global;
 use std::fs::{File, Files};
 
 // The cache over the log in a file, which is made where it is absent or empty.
-fn open_file<H: Files<File = File>>(
+pub fn open_file<H: Files<File = File>>(
     files: &H,
     alloc: Global,
     path: &str,
