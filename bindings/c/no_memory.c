@@ -1,6 +1,7 @@
-/* Makes calls with the first allocation failing, then with the second, and so on: of a cache in memory, and of one over a file. Each call
- * has to answer a status, the one that is refused has to succeed when it is made again, and all has to be freed. Linked with --wrap=malloc,
- * --wrap=calloc, --wrap=realloc and --wrap=free. Usage: no_memory FOLDER, in which it makes its file. */
+/* Counts the allocations of the calls that promise to take no memory. Then it makes calls with the first allocation failing, then with the
+ * second, and so on: of a cache in memory, and of one over a file. Each call has to answer a status, the one that is refused has to succeed
+ * when it is made again, and all has to be freed. Linked with --wrap=malloc, --wrap=calloc, --wrap=realloc and --wrap=free. Usage: no_memory
+ * FOLDER, in which it makes its file. */
 #define _DEFAULT_SOURCE
 #include "dilluvas_file.h"
 #include <stdio.h>
@@ -11,11 +12,12 @@ void *__real_calloc(size_t count, size_t size);
 void *__real_realloc(void *block, size_t size);
 void __real_free(void *block);
 
-/* How many allocations succeed before one fails, how many blocks there are, and whether one failed. */
-static long left, blocks;
+/* How many allocations succeed before one fails, how many blocks there are, how many allocations were asked for, and whether one failed. */
+static long left, blocks, asked;
 static bool failed;
 
 static bool fails(void) {
+    asked++;
     if (left-- != 0) return false;
     failed = true;
     return true;
@@ -137,6 +139,64 @@ static void run_over_file(void) {
     CALL(dilluvas_file_close(&file));
 }
 
+/* Whether a call asked for no allocation, and answered so. */
+static void no_request(int line, long before, dilluvas_status status, dilluvas_status wanted) {
+    if (asked == before && status == wanted) return;
+    printf("line %d: status %u after %ld allocations\n", line, status, asked - before);
+    wrong = true;
+}
+
+#define NONE(call, wanted) \
+    do { \
+        before = asked; \
+        status = (call); \
+        no_request(__LINE__, before, status, (wanted)); \
+    } while (0)
+
+/* The calls that promise to take no memory take none, over a cache whose pages are in memory. */
+static bool none_are_asked(void) {
+    dilluvas d = DILLUVAS_CLOSED;
+    dilluvas_settings settings = {256, 10, 4096, 64, 0};
+    dilluvas_status status;
+    dilluvas_found found;
+    uint64_t page = 0, other = 0, stamp = 0, tree = 0, stale = 0, gone = 1, root, n;
+    uint8_t buffer[512], pairs[64], key[1] = {9}, bytes[4] = {1};
+    size_t size, end = dilluvas_put(pairs, sizeof pairs, 0, key, 1, bytes, 4);
+    bool moved;
+    long before;
+    left = -1;
+    wrong = false;
+    refused = 0;
+    CALL(dilluvas_open_memory(&d, &settings));
+    CALL(dilluvas_allocate(&d, pairs, end, &page, &stamp));
+    CALL(dilluvas_allocate(&d, NULL, 0, &other, &n));
+    CALL(dilluvas_set(&d, page, &stamp, bytes, 4, bytes, 4));
+    CALL(dilluvas_open_tree(&d, bytes, 4, &tree));
+    before = asked;
+    NONE(dilluvas_get(&d, page, &found, buffer, sizeof buffer), DILLUVAS_OK);
+    NONE(dilluvas_value(&d, page, key, 1, &n, buffer, sizeof buffer, &size), DILLUVAS_OK);
+    NONE(dilluvas_get(&d, 99, &found, buffer, sizeof buffer), DILLUVAS_GONE);
+    NONE(dilluvas_root(&d, bytes, 4, &n), DILLUVAS_OK);
+    NONE(dilluvas_generate_id(&d, &n), DILLUVAS_OK);
+    NONE(dilluvas_size(&d, &n), DILLUVAS_OK);
+    NONE(dilluvas_gc(&d, &moved), DILLUVAS_OK);
+    NONE(dilluvas_flush(&d, &size), DILLUVAS_OK);
+    NONE(dilluvas_flush(&d, &size), DILLUVAS_OK);
+    NONE(dilluvas_free(&d, page, &stale), DILLUVAS_STALE);
+    NONE(dilluvas_free(&d, 99, &gone), DILLUVAS_GONE);
+    root = 77;
+    NONE(dilluvas_cas_root(&d, bytes, 4, &root, page), DILLUVAS_STALE);
+    for (int sealed = 0; sealed < 2; sealed++) {
+        CALL(dilluvas_pin(&d));
+        CALL(dilluvas_set(&d, page, &stamp, bytes, 4, bytes, 4));
+        if (sealed) NONE(dilluvas_seal(&d), DILLUVAS_OK);
+        else NONE(dilluvas_cancel(&d), DILLUVAS_OK);
+    }
+    CALL(dilluvas_close(&d));
+    printf("no memory is taken by %s\n", wrong ? "some of the calls" : "each call that promises it");
+    return !wrong && blocks == 0 && asked > 0;
+}
+
 /* Lets each allocation of a run fail in turn, and answers whether all went well. */
 static bool each_fails(const char *name, void (*run)(void)) {
     long tried = 0, passed_over = 0, calls = 0;
@@ -160,7 +220,7 @@ static bool each_fails(const char *name, void (*run)(void)) {
 int main(int count, char **arguments) {
     if (count != 2) return 2;
     snprintf(path, sizeof path, "%s/no_memory", arguments[1]);
-    bool passed = each_fails("in memory", run) && each_fails("over a file", run_over_file);
+    bool passed = none_are_asked() && each_fails("in memory", run) && each_fails("over a file", run_over_file);
     unlink(path);
     return !passed;
 }
