@@ -1,5 +1,5 @@
 #!/bin/sh
-# Compares README.md, docs/SCRIPT.md and docs/API.md with the code, word for word, and prints what differs:
+# Compares README.md, examples/README.md, docs/SCRIPT.md and docs/API.md with the code, word for word, and prints what differs:
 #
 # - each block of Rattle of README stands at the head of a file of a folder readme, of crates/sledpc/src/tests or
 #   crates/sled_shared_tests/src, which is named as its function is and has a test after it, and each of these files has its block;
@@ -9,6 +9,8 @@
 #   crates/sledpc/stdout), or is a row of the tests of the program; over a file the runs of a block are the first rows of a test, one
 #   after another; and so is one of a crew;
 # - each other command of a session is there;
+# - each program of crates/example_* has its session in examples/README.md, with what it writes (its file stdout, which the gate
+#   compares with its runs), and each block of code there stands in a source or a proof of one of them;
 # - each file of a crate's specs has its line in docs/dev/SPECS.md;
 # - docs/API.md is what tools/api.sh prints;
 # - each relative link of a page leads to a file that is there, and to a heading of it, and each page of docs or bench that a source or a
@@ -31,17 +33,17 @@ differ() {
     status=1
 }
 
-# Cuts a page into files in a folder of its own, $cut, in order: NUMBER.rust, NUMBER.c and NUMBER.python for a block of that language,
-# NUMBER.COUNT.command for a command of a session and NUMBER.COUNT.replies for what stands below it. The page is $page from then on.
+# Cuts a page into files in a folder of its own, $cut, in order: NUMBER.rust, NUMBER.antt, NUMBER.c and NUMBER.python for a block of that
+# language, NUMBER.COUNT.command for a command of a session and NUMBER.COUNT.replies for what stands below it. The page is $page from then on.
 cut_page() {
     page=$1
-    cut=$work/$(basename "$page" .md)
+    cut=$work/$(echo "${page%.md}" | tr / _)
     mkdir "$cut"
     awk -v work="$cut" -v page="$page" '
         /^```/ && !inside { inside = 1; number++; kind = substr($0, 4); count = 0; next }
         /^```/ { inside = 0; next }
         !inside { next }
-        kind == "rust" || kind == "c" || kind == "python" { print > sprintf("%s/%03d.%s", work, number, kind); next }
+        kind == "rust" || kind == "antt" || kind == "c" || kind == "python" { print > sprintf("%s/%03d.%s", work, number, kind); next }
         kind != "" && kind != "console" && kind != "sh" { next }
         /^\$ / { count++; print substr($0, 3) > sprintf("%s/%03d.%03d.command", work, number, count); next }
         count > 0 { print > sprintf("%s/%03d.%03d.replies", work, number, count); next }
@@ -193,6 +195,41 @@ compare_sessions() {
     compare_file_runs
 }
 
+# Whether the lines of the file $1 stand in the file $2, one after another.
+stands_in() {
+    awk '
+        NR == FNR { wanted[++count] = $0; next }
+        { line[FNR] = $0; lines = FNR }
+        END {
+            for (at = 1; at + count - 1 <= lines; at++) {
+                for (i = 1; i <= count && line[at + i - 1] == wanted[i]; i++) { }
+                if (i > count) exit 0
+            }
+            exit 1
+        }
+    ' "$1" "$2"
+}
+
+compare_examples() {
+    for example in crates/example_*; do
+        session=$(grep -lxF "cd $example && rt run" "$cut"/*.command || true)
+        if [ ! -f "$session" ]; then
+            differ "no session, or more than one, is 'cd $example && rt run'"
+        elif ! diff "${session%.command}.replies" "$example/stdout" >"$work/diff"; then
+            differ "the replies to 'cd $example && rt run' (<) differ from $example/stdout (>):"
+            cat "$work/diff"
+        fi
+    done
+    find crates/example_* -path '*/out' -prune -o -name '*.rt' -print -o -name '*.antt' -print >"$work/sources"
+    for block in "$cut"/*.rust "$cut"/*.antt; do
+        found=''
+        while read -r file; do
+            ! stands_in "$block" "$file" || found=$file
+        done <"$work/sources"
+        [ -n "$found" ] || differ "no source or proof of crates/example_* has the block that begins so: $(head -n 1 "$block")"
+    done
+}
+
 tell_faults() {
     [ -s "$cut/faults" ] || return 0
     cat "$cut/faults"
@@ -251,6 +288,10 @@ compare_rust
 compare_bindings
 compare_sessions
 compare_definitions
+tell_faults
+cut_page examples/README.md
+compare_examples
+compare_sessions
 tell_faults
 cut_page docs/SCRIPT.md
 compare_sessions
