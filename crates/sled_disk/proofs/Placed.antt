@@ -1,10 +1,7 @@
 -- Heads in their bytes.
 use Rattle.std.proofs.Common.{◌≡◌, ℕ, zero, suc, ◌+◌, ◌^◌, ◌<◌, List, [], ◌∷◌, ◌++◌, length, map, take, drop, get_or, slice_index_or, refl, ap, sym, ◌∙◌, subst, append_assoc, arith}
-use Rattle.std.specs.Global.{Vec}
-use Rattle.sled_log.specs.declared.log.LogError.{LogError}
-use Rattle.std.specs.Prelude.{Result, Ok, Err, IfOk, ℤ, nat_lt, Option, Some, None}
-use Rattle.std.specs.List.{All, Any, AllByRecursion}
-use Rattle.std.proofs.lemmas.List.Elements.{All-from_recursion}
+use Rattle.std.specs.Prelude.{ℤ, nat_lt, Option, Some, None}
+use Rattle.std.specs.List.{Any, AllByRecursion}
 use Rattle.std.proofs.Math.ListN.{get_or-map}
 use Rattle.sled_disk.proofs.Shown.{read-heads}
 use Rattle.std.proofs.lemmas.List.{drop_at, length-append, take-append-drop}

@@ -1,5 +1,5 @@
 -- The chain of a page whose places are kept, and what reading it found.
-use Rattle.sled_pagecache.proofs.Names.{◌≡◌, ◌+◌, ℕ, zero, suc, ℤ, List, [], length, map, get_or, sym, ◌∙◌, ap, arith, add-one, zero-add, pos, get_or-map, length-map, Inline, one_more, Entry, message, said_of, IsAt, place_of, count_after, CacheInfo, ◌-◌, ◌<◌, ◌≤◌, take, drop, take_all, length-drop, get_or_after_one}
+use Rattle.sled_pagecache.proofs.Names.{◌≡◌, ◌+◌, ℕ, zero, suc, ℤ, List, [], length, map, get_or, sym, ◌∙◌, ap, arith, add-one, zero-add, pos, get_or-map, length-map, Inline, one_more, Entry, message, said_of, IsAt, place_of, count_after, CacheInfo, ◌-◌, ◌<◌, take, drop, take_all, length-drop, get_or_after_one}
 use Rattle.sled_base.specs.declared.kinds.MessageKind.TheVariants as kinds
 
 -- one more after so many more

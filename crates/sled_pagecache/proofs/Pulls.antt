@@ -1,5 +1,5 @@
 -- What is found of a page's messages, one after another, makes what its chain makes, and why no node is read.
-use Rattle.sled_pagecache.proofs.Names.{◌≡◌, ◌+◌, ◌<◌, ◌++◌, inl, inr, ℕ, false, List, [], ◌∷◌, length, map, take, get_or, refl, sym, ◌∙◌, ap, subst, take_more, take_all, map-append, arith, Result, Ok, Err, IfOk, IfErr, MessageKind, DiskPtr, Refusal, is_empty, Node, Update, Put, Link, Entry, Chain, Messages, messages_of, message, effect_of_entry, kind_at, Decodes, IsUpdate, Makes, WholeNode, IsReadAs, IsFoundAs, RefusesPull, found_message, Leads, RefusesFirst, RefusesMessage, Follows, Found, ◌≤◌, Some, now, one_more, Ghosts, StickyLog, Went, IsCaused, HasRead, OutOfMemory, Corruption, ReportableBug, FreeInPull}
+use Rattle.sled_pagecache.proofs.Names.{◌≡◌, ◌+◌, ◌<◌, ◌++◌, inl, inr, ℕ, false, List, [], ◌∷◌, length, take, get_or, refl, sym, ◌∙◌, ap, subst, take_more, take_all, map-append, arith, Result, Ok, Err, IfOk, IfErr, MessageKind, DiskPtr, Refusal, is_empty, Node, Update, Put, Link, Entry, Chain, Messages, messages_of, message, effect_of_entry, kind_at, Decodes, IsUpdate, Makes, WholeNode, IsReadAs, IsFoundAs, RefusesPull, found_message, Leads, RefusesFirst, RefusesMessage, Follows, Found, ◌≤◌, Some, now, one_more, Ghosts, StickyLog, Went, IsCaused, HasRead, OutOfMemory, Corruption, ReportableBug, FreeInPull}
 use Rattle.sled_pagecache.specs.Inside.Sizes.{ReadsLog}
 use Rattle.sled_base.specs.declared.kinds.MessageKind.TheVariants as kinds
 use Rattle.sled_pagecache.proofs.FoundMessages.{makes-more, makes-last, refused-at}
@@ -124,7 +124,3 @@ next-so-far chain i entry found (Err refusal) then lt at is made follows = subst
 pub made-all : (chain : Chain) (i : ℕ) (made : Result WholeNode Refusal) → length chain ≤ i → MakesSoFar chain i made → IfOk made (λ node. Makes (messages_of chain) (Node node))
 made-all chain i (Ok node) le made = subst (λ (l : Chain). Makes (messages_of l) (Node node)) (take_all i chain le) made
 made-all chain i (Err refusal) le made = tt
-
-pub refused-all : (chain : Chain) (i : ℕ) (made : Result WholeNode Refusal) → MakesSoFar chain i made → IfErr made (RefusesPull chain)
-refused-all chain i (Ok node) made = tt
-refused-all chain i (Err refusal) made = made

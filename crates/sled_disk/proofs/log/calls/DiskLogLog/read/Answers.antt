@@ -1,4 +1,4 @@
-use Rattle.std.proofs.Common.{rules, ◌≡◌, SFits, sym, subst, w64, to_z, of_z, [], slice_index_or}
+use Rattle.std.proofs.Common.{rules, ◌≡◌, SFits, sym, subst, w64, [], slice_index_or}
 use Rattle.std.proofs.lemmas.Int.{to_z-of_z}
 use Rattle.std.proofs.lemmas.List.{nil_from_length}
 use Rattle.std.specs.List.{Any}

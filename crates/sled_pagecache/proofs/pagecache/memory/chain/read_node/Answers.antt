@@ -1,7 +1,7 @@
-use Rattle.sled_pagecache.proofs.Names.{◌≡◌, ℕ, ◌+◌, ◌-◌, ◌<◌, ◌≤◌, List, [], length, take, drop, get_or, slice_index_or, refl, sym, ◌∙◌, ap, subst, arith, rules, to_z, of_z, w64, SFits, to_z-of_z, refused-is, Any, Result, Refusal, Ok, Err, IfOk, IfErr, Chain, Entry, IsAt, IsReadAs, IsFoundAs, Makes, Node, Found, CacheInfo, chain_at, messages_of, take_all, get_or_default}
+use Rattle.sled_pagecache.proofs.Names.{◌≡◌, ℕ, ◌+◌, ◌-◌, ◌<◌, ◌≤◌, List, [], length, take, drop, get_or, slice_index_or, refl, sym, ◌∙◌, ap, subst, arith, rules, to_z, of_z, w64, SFits, to_z-of_z, refused-is, Any, Chain, Entry, IsAt, IsReadAs, Found, CacheInfo, chain_at, take_all, get_or_default}
 use Rattle.sled_pagecache.proofs.ChainReads.{entry_at, info-after, is_at, length-known, no_info, within-after}
 use Rattle.sled_pagecache.proofs.Measuring.{read-more, read-refused}
-use Rattle.sled_pagecache.proofs.Pulls.{MakesSoFar, first-judged, first-so-far, follow-judged, made-all, next-so-far, reads-judged, reads-one, refused-one}
+use Rattle.sled_pagecache.proofs.Pulls.{first-judged, first-so-far, follow-judged, made-all, next-so-far, reads-judged, reads-one, refused-one}
 use Rattle.sled_log.specs.Payloads.{payload_in}
 use Rattle.sled_pagecache.specs.Inside.Sizes.{ReadsLog}
 use Rattle.sled_pagecache.proofs.pagecache.memory.chain.read_node.Goals as goal
