@@ -56,40 +56,37 @@ fn misfit(alloc: Global, file: &[u8], records: &[Record]) -> Option<u64> {
 
 // ---- what comes of a file
 
-// Whether the cache shows each page as it should, and whether one is damaged.
-fn all_shown(alloc: Global, cache: &mut Disked, file: &[u8], records: &[Record]) -> Option<bool> {
-    let mut is_damaged = false;
+/// What a file is opened as.
+#[derive(Clone, Copy, PartialEq, Eq)]
+enum Ending {
+    NoLog,
+    // the first message of a page that no cache leaves so stands there
+    NoCache(u64),
+    Damaged,
+    Whole,
+}
+
+// What a cache shows whose pages are those of the records: whether one is damaged.
+fn shown_by(alloc: Global, cache: &mut Disked, file: &[u8], records: &[Record]) -> Option<Ending> {
+    let mut ending = Ending::Whole;
     for pid in 2..pages_in(records).saturating_add(2) {
         let page = page_of(alloc, file, &messages_of(alloc, records, pid)?);
-        is_damaged = is_damaged || matches!(page, Page::Wrong(_));
+        if matches!(page, Page::Wrong(_)) {
+            ending = Ending::Damaged;
+        }
         if !is_shown(cache, pid, file, &page) {
             return None;
         }
     }
-    Some(is_damaged)
+    (cache.was_recovered() == (pages_in(records) > 1)).then_some(ending)
 }
 
-// Counts a file over which a cache was opened.
-fn count_opened(
-    alloc: Global,
-    tally: &mut Tally,
-    mut cache: Disked,
-    file: &[u8],
-    records: &[Record],
-) -> Option<()> {
-    if cache.was_recovered() != (pages_in(records) > 1) {
-        return None;
+fn refused_as(error: &Error) -> Option<Ending> {
+    match error {
+        Error::Corruption(None) => Some(Ending::NoLog),
+        Error::Corruption(Some(DiskPtr::Inline(place))) => Some(Ending::NoCache(*place)),
+        _ => None,
     }
-    if all_shown(alloc, &mut cache, file, records)? {
-        count(&mut tally.damaged);
-    } else {
-        count(&mut tally.whole);
-    }
-    Some(())
-}
-
-fn count(files: &mut u32) {
-    *files = files.saturating_add(1);
 }
 
 // A disk with these bytes.
@@ -100,56 +97,42 @@ fn disk_with(alloc: Global, file: &[u8]) -> Option<MemDisk> {
     Some(disk)
 }
 
-// Where the page begins for which opening a cache is refused.
-fn refused_for(error: &Error) -> Option<u64> {
-    match error {
-        Error::Corruption(Some(DiskPtr::Inline(place))) => Some(*place),
-        _ => None,
+// What a file is opened as; where it is a cache, its pages are those of the records.
+fn opened_as(alloc: Global, file: &[u8], records: &[Record]) -> Option<Ending> {
+    match opened_on(alloc, disk_with(alloc, file)?, 4096) {
+        Ok(mut cache) => shown_by(alloc, &mut cache, file, records),
+        Err((error, _disk)) => refused_as(&error),
     }
 }
 
-// What comes of the opening of a file.
-type Opened = Result<Disked, (Error, MemDisk)>;
-
-// Counts a log, over which a cache is opened, or refused for the first page that no cache leaves so.
-fn count_log(
-    alloc: Global,
-    tally: &mut Tally,
-    opened: Opened,
-    file: &[u8],
-    records: &[Record],
-) -> Option<()> {
-    let misfit = misfit(alloc, file, records);
-    match opened {
-        Ok(cache) => {
-            misfit.is_none().then_some(())?;
-            count_opened(alloc, tally, cache, file, records)
-        }
-        Err((error, _disk)) => {
-            count(&mut tally.no_cache);
-            (misfit.is_some() && refused_for(&error) == misfit).then_some(())
-        }
-    }
+// The same of a log, if the plain reader says so.
+fn log_opened_as(alloc: Global, file: &[u8], records: &[Record]) -> Option<Ending> {
+    let ending = opened_as(alloc, file, records)?;
+    let is_so = match misfit(alloc, file, records) {
+        Some(place) => ending == Ending::NoCache(place),
+        None => matches!(ending, Ending::Damaged | Ending::Whole),
+    };
+    is_so.then_some(ending)
 }
 
-// Counts a file that is no log.
-fn count_no_log(tally: &mut Tally, opened: Opened) -> Option<()> {
-    count(&mut tally.no_log);
-    match opened {
-        Err((Error::Corruption(None), _)) => Some(()),
-        _ => None,
-    }
-}
-
-// Counts a file, if what comes of it is what the plain reader says.
-fn count_file(alloc: Global, tally: &mut Tally, file: &[u8]) -> Option<()> {
-    let opened = opened_on(alloc, disk_with(alloc, file)?, 4096);
+// The same of a file.
+fn file_opened_as(alloc: Global, file: &[u8]) -> Option<Ending> {
     match records_in(alloc, file) {
-        Some(records) if are_log(&records, file) => {
-            count_log(alloc, tally, opened, file, &records)
-        }
-        _ => count_no_log(tally, opened),
+        Some(records) if are_log(&records, file) => log_opened_as(alloc, file, &records),
+        _ => opened_as(alloc, file, &[]).filter(|ending| *ending == Ending::NoLog),
     }
+}
+
+// Counts a file, if it is opened as the plain reader says.
+fn count_file(alloc: Global, tally: &mut Tally, file: &[u8]) -> Option<()> {
+    let files = match file_opened_as(alloc, file)? {
+        Ending::NoLog => &mut tally.no_log,
+        Ending::NoCache(_) => &mut tally.no_cache,
+        Ending::Damaged => &mut tally.damaged,
+        Ending::Whole => &mut tally.whole,
+    };
+    *files = files.saturating_add(1);
+    Some(())
 }
 
 // ---- the rule
