@@ -62,6 +62,7 @@ fn leaf_of(alloc: Global, pairs: Vec<(IVec, IVec)>) -> Result<Option<Node>, Allo
 }
 
 /// `ID STAMP KEY VALUE`, behind `set`: the token and the link.
+#[inline(always)]
 pub fn set_behind(alloc: Global, words: &[u8]) -> Result<Option<(PageView, Link)>, AllocError>
     ensures some { IfOk result (λ found. IfSome found (λ made. AsksBehind (codes "set")
         (Some words.now) (calls.Link made.0 made.1))) }
@@ -84,6 +85,7 @@ pub fn set_behind(alloc: Global, words: &[u8]) -> Result<Option<(PageView, Link)
 }
 
 /// `ID STAMP KEY`, behind `del`: the token and the link.
+#[inline(always)]
 pub fn del_behind(alloc: Global, words: &[u8]) -> Result<Option<(PageView, Link)>, AllocError>
     ensures some { IfOk result (λ found. IfSome found (λ made. AsksBehind (codes "del")
         (Some words.now) (calls.Link made.0 made.1))) }

@@ -13,7 +13,7 @@ use super::batch::pin_again;
 use super::command::{
     Mark, cas_behind, del_behind, free_behind, leaf_behind, replace_behind, set_behind,
 };
-use super::reply::{LentAnswer, gather_line, gather_mark, gather_tree};
+use super::reply::{LentAnswer, gather_line, gather_mark, gather_swap, gather_tree};
 use super::run::RunError;
 use super::words::{bytes_of, first_word, number_of};
 use crate::output::{Unwritten, gather_text};
@@ -325,7 +325,7 @@ fn serve_link<L: Log, W: Write>(
         (W.contents writer.new) piece.old piece.new result cache.new }
 {
     let answer = cache.link(old.pid(), old, link);
-    gather_line(writer, piece, LentAnswer::Linked(&answer))
+    gather_swap(writer, piece, &answer)
 }
 
 fn serve_id<L: Log, W: Write>(

@@ -87,8 +87,9 @@ pub fn gather_line<W: Write>(
     }
 }
 
-// The same of a swap: the page's new stamp, or the present one.
-fn gather_swap<W: Write, R>(
+/// The same of a swap: the page's new stamp, or the present one.
+#[inline(always)]
+pub fn gather_swap<W: Write, R>(
     writer: &mut W,
     piece: &mut Piece,
     answer: &Result<Result<PageView, Option<(PageView, R)>>, Error>,

@@ -100,6 +100,10 @@ fn decode(word: &[u8], bytes: &mut [u8]) -> bool
 }
 
 /// The bytes that the word encodes: lower-case hexadecimal, or `-` for none.
+///
+/// It is put where it is called, as other functions are that read a line: what each of them answers is large, and would be cleared first
+/// and then copied.
+#[inline(always)]
 pub fn bytes_of(alloc: Global, word: &[u8]) -> Result<Option<IVec>, AllocError>
     ensures some { IfOk result (λ found. IfSome found (λ bytes. word.now ≡ bytes_word bytes)) }
     ensures bytes { IfOk result (λ found. IfSome found AreBytes) }

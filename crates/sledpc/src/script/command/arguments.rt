@@ -11,6 +11,7 @@ use crate::script::words::{first_word, number_of};
 use sled_pagecache::{PageId, PageView};
 
 /// The token whose words stand in front, and what follows the space behind them, if a space is there.
+#[inline(always)]
 pub fn token_of(words: &[u8]) -> Option<(PageView, Option<&[u8]>)>
     ensures some { IfSome result (λ read. BeginsWithToken (Some words.now) read.0
         (option_map (λ rest. rest.now) read.1)) }

@@ -6,5 +6,5 @@ returns g c = record {
   answer = Linked c.link-answer.result;
   made = record { step = c.link-answer.ensures.step; bytes = tt; faults = c.link-answer.ensures.blame; covered = tt; keeps = c.link-answer.ensures.keeps };
   batch = c.link-answer.ensures.keeps.batch;
-  written = c.gather_line.ensures;
+  written = c.gather_swap.ensures;
 }
