@@ -53,6 +53,8 @@ pub fn version(alloc: Global, store: &mut Store) -> Result<PageView, Error> {
 }
 
 /// Sets all of these pairs in one batch, if the page is still at this version. After a crash all of them are there, or none.
+///
+/// An error in the midst of them, for want of memory say, cancels the batch, which undoes nothing: those before it stay set.
 pub fn set_all(
     alloc: Global,
     store: &mut Store,

@@ -229,7 +229,7 @@ fn told_by(answer: &Result<u8, Failure>) -> Told {
     }
 }
 
-// What it answers where the rule allows the changes or not, and the write behind so many of the batch's five events fails.
+// What it answers where the rule allows the changes or not, and the write after so many of the batch's five events fails.
 const SETTLED: &[(bool, u64, Told)] = &[
     (true, 5, Told::Value),
     (false, 5, Told::Rule),
