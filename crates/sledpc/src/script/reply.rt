@@ -14,15 +14,14 @@ use crate::output::{
     Unwritten, gather_bytes_word, gather_number, gather_text, make_room, write_text,
 };
 use crate::piece::Piece;
-use sled_pagecache::{Device, Error, Item, Link, Node, NodeView, PageId, PageView, Refusal};
+use sled_pagecache::{Device, Error, Item, Node, NodeView, PageId, PageView, Refusal};
 use std::io::Write;
 
-/// What a call of the cache answered, lent.
+/// What a call of the cache answered, lent: any but a link, whose answer is replied to by itself.
 #[derive(Clone, Copy)]
 pub enum LentAnswer<'a> {
     Allocated(&'a Result<(PageId, PageView), Error>),
     Got(Result<Option<NodeView<'a>>, Refusal>),
-    Linked(&'a Result<Result<PageView, Option<(PageView, Link)>>, Error>),
     Replaced(&'a Result<Result<PageView, Option<(PageView, Node)>>, Error>),
     Freed(&'a Result<Result<PageView, Option<(PageView, ())>>, Error>),
     FoundRoot(&'a Result<PageId, Error>),
@@ -52,7 +51,6 @@ pub fn gather_line<W: Write>(
             view.node(),
         ),
         LentAnswer::Got(Ok(None)) => gather_text(writer, piece, b"none\n"),
-        LentAnswer::Linked(answer) => gather_swap(writer, piece, answer),
         LentAnswer::Replaced(answer) => gather_swap(writer, piece, answer),
         LentAnswer::Freed(answer) => gather_swap(writer, piece, answer),
         LentAnswer::FoundRoot(Ok(root)) => gather_labelled(writer, piece, b"page ", *root),
@@ -87,7 +85,7 @@ pub fn gather_line<W: Write>(
     }
 }
 
-/// The same of a swap: the page's new stamp, or the present one.
+/// Puts the reply to a swap as a line behind what was gathered: the page's new stamp, or the present one.
 #[inline(always)]
 pub fn gather_swap<W: Write, R>(
     writer: &mut W,
