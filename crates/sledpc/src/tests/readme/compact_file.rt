@@ -59,6 +59,8 @@ fn replaced(
 // How many bytes the file of a page has that was replaced a hundred times, before and after.
 fn sizes(files: &HostRuntime) -> Result<Option<(u64, u64)>, Error> {
     let alloc = files.alloc();
+    // what an earlier run left
+    let _ = files.remove_file(PATH);
     let mut cache = open_file(files, alloc, PATH)?;
     let (_, mut token) = cache.allocate(Node::default(alloc))?;
     for _ in 0..100 {
