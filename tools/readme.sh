@@ -186,7 +186,7 @@ compare_sessions() {
         ./* | .ci/* | tools/*)
             [ -x "${text%% *}" ] || differ "there is no command ${text%% *}"
             ;;
-        "rt "* | "cd crates/"*) ;;
+        "rt "* | "cd crates/"* | "(cd crates/"*) ;;
         # bindings/readme.sh makes these
         bindings/* | "cargo "* | "cc "* | "PYTHONPATH="*) ;;
         *) differ "nothing is known of the command '$text'" ;;
