@@ -66,7 +66,7 @@ module _ (old new : MemLog) where
     remembers_same = record { later = omega arith; one = omega arith; past = λ moment le. ap (state_at moment) kept }
 
     adds_same : Adds effect_of_entry (state_of old) [] (state_of new)
-    adds_same = rw (clock, kept) (Adds-none effect_of_entry (state_of old))
+    adds_same = rw (kept, clock) (Adds-none effect_of_entry (state_of old))
 
     -- nothing was added
     pub called_memory : {T : Type 0} (count : ℕ) (events : T → List (Event Entry)) (begun : List (Event Message)) → new.reads ≡ count
@@ -97,5 +97,5 @@ module _ (old new : MemLog) where
 
     pub called_settled : {T : Type 0} (answer : T) → is_open (state_of old).pending ≡ false → new.reads ≡ old.reads → Called ⊤ state_of clock_of might_have_left counts_of old new old.reads (λ _. []) [] (Ok answer)
     called_settled answer closed reads = called_ok answer old.reads (λ _. []) [] refl
-        (rw (clock, kept) (adds-settled old.clock (old.clock + 1) old.stable (kept_in old) (omega arith) old.in_order (ap is_open (sym (pending_events old.clock old.stable (kept_in old) old.in_order)) ∙ closed)))
+        (rw (kept, clock) (adds-settled old.clock (old.clock + 1) old.stable (kept_in old) (omega arith) old.in_order (ap is_open (sym (pending_events old.clock old.stable (kept_in old) old.in_order)) ∙ closed)))
         remembers_settled reads

@@ -141,6 +141,47 @@ list_all-settled clock moment le (x ∷ xs) all =
     let a = and_parts (is_waiting clock x) (list_all (is_waiting clock) xs) all in
     and_from (was_stable moment (item_settled_at moment x)) (list_all (was_stable moment) (map (item_settled_at moment) xs)) (settled_stable clock moment le x a.0) (list_all-settled clock moment le xs a.1)
 
+-- an item becomes stable at that moment, if it isn't
+abbrev pub or_settled : ℕ → Option ℕ → Option ℕ
+or_settled moment None = Some moment
+or_settled moment (Some at) = Some at
+
+abbrev made : LogItem → Option ℕ → LogItem
+made item settled = record { mark = item.mark; end = item.end; came = item.came; settled = settled }
+
+abbrev pub settled_by : ℕ → LogItem → LogItem
+settled_by moment item = made item (or_settled moment item.settled)
+
+-- so do those that were pending
+pub all-settled : (moment clock stable : ℕ) (items : List LogItem) → IsInOrder clock stable items → map (settled_by moment) items ≡ items_settled_at moment stable items
+all-settled moment clock stable items order =
+    ap (map (settled_by moment)) (sym (take-append-drop stable items))
+    ∙ map-append (settled_by moment) (take stable items) (drop stable items)
+    ∙ ap (λ (l : List LogItem). l ++ map (settled_by moment) (drop stable items)) (stay (take stable items) order.first)
+    ∙ ap (λ (l : List LogItem). take stable items ++ l) (settle (drop stable items) order.others)
+  where
+    was : (o : Option ℕ) → was_by clock o ≡ true → or_settled moment o ≡ o
+    was None h = absurd (false≢true h)
+    was (Some at) h = refl
+
+    waits : (o : Option ℕ) → is_none o ≡ true → or_settled moment o ≡ Some moment
+    waits None h = refl
+    waits (Some at) h = absurd (false≢true h)
+
+    stay : (xs : List LogItem) → list_all (was_stable clock) xs ≡ true → map (settled_by moment) xs ≡ xs
+    stay [] all = refl
+    stay (x ∷ xs) all =
+        let a = and_parts (was_stable clock x) (list_all (was_stable clock) xs) all in
+        let b = and_parts (nat_le x.came clock) (was_by clock x.settled) a.0 in
+        ap (λ (o : Option ℕ). made x o ∷ map (settled_by moment) xs) (was x.settled b.1) ∙ ap (λ (l : List LogItem). x ∷ l) (stay xs a.1)
+
+    settle : (xs : List LogItem) → list_all (is_waiting clock) xs ≡ true → map (settled_by moment) xs ≡ map (item_settled_at moment) xs
+    settle [] all = refl
+    settle (x ∷ xs) all =
+        let a = and_parts (is_waiting clock x) (list_all (is_waiting clock) xs) all in
+        let b = and_parts (nat_le x.came clock) (is_none x.settled) a.0 in
+        ap (λ (o : Option ℕ). made x o ∷ map (settled_by moment) xs) (waits x.settled b.1) ∙ ap (λ (l : List LogItem). item_settled_at moment x ∷ l) (settle xs a.1)
+
 pub length-all_settled : (moment stable : ℕ) (items : List LogItem) → length (items_settled_at moment stable items) ≡ length items
 length-all_settled moment stable items =
     length-append (take stable items) (map (item_settled_at moment) (drop stable items))

@@ -17,7 +17,7 @@ pub use Rattle.sled_log.specs.MemLog.Kept.{KeptChange, LogItem, LogItem as KeptI
 pub use Rattle.sled_log.specs.Inside.Laws.{Adds-none, Adds-then, CrashesSinceLeave-none, CrashesSinceLeave-then, IsFair-none, IsLeft-behind, IsLeft-cut, IsLeft-more, IsPrefix-all, IsPrefix-none, chains_after-append, is_open-Adds, now-Adds, open_after-append}
 pub use Rattle.sled_log.specs.Limits.{head_size, most_count, size_limit}
 pub use Rattle.sled_log.specs.LogState.{Adds, CrashesSinceLeave, IsLeft, LogState, now, unplaced_state}
-pub use Rattle.sled_log.specs.Inside.Memory.{Remembers, mark_in, put_message, was_at}
+pub use Rattle.sled_log.specs.Inside.Memory.{Remembers, last_in, mark_in, put_message, was_at}
 pub use Rattle.sled_log.specs.MemLog.State.{clock_of, counts_of, kept_in, might_have_left, moves_of, state_of}
 pub use Rattle.sled_log.specs.Messages.{Chain, Entry, Message, Messages, effect_of, effect_of_entry, kind_at, message, message_in, placed_entry, messages_of}
 pub use Rattle.sled_log.specs.Pages.{IsAt, IsPageState, IsRead, IsReadAs, IsSized, said_of}
@@ -25,8 +25,8 @@ pub use Rattle.sled_log.specs.Inside.ReadingLaws.{one_content, one_update}
 pub use Rattle.sled_log.specs.Inside.RunLaws.{Called-stop, CrashesSinceLeave-weaker, Ran, Ran-more, Ran-stop, append-events, call-added, call-stop, now-call, open-call, tells-call}
 pub use Rattle.sled_log.specs.Runs.{can_make, can_make_all, events_of, events_of_all, leaves_open}
 pub use Rattle.sled_log.specs.Inside.SeenLaws.{IsFair-seen, IsFair-unseen, IsLeft-seen}
-pub use Rattle.sled_log.specs.Inside.Stored.{are_within, is_within, lies, blob_lies, size_of_stored, payload_size, pages_with, pages_after, before_mark, before_change, bare_event, bare_event_of, last_of, place_after, restarts, settle_all, settles_at, start_after}
-pub use Rattle.sled_log.specs.MemLog.Stored.{kept_from, kept_item, kept_items, kept_mark, moment_of, no_moment, part, payload_of, pointer_of}
+pub use Rattle.sled_log.specs.Inside.Stored.{are_within, is_within, lies, blob_lies, size_of_stored, payload_size, pages_with, pages_after, before_mark, before_change, bare_event, bare_event_of, came_by, last_came, last_of, place_after, restarts, start_after}
+pub use Rattle.sled_log.specs.MemLog.Stored.{kept_from, kept_item, kept_items, kept_mark, last_settled, part, payload_of, pointer_of, settled_at, settled_behind}
 pub use Rattle.sled_log.specs.Inside.UnplacedLaws.{Adds-unplaced, opened-Adds}
 pub use Rattle.sled_log.specs.Messages.{unplaced_events}
 pub use Rattle.sled_log.specs.Inside.Walks.{stands-on, stands-still}

@@ -1,13 +1,15 @@
 -- What the log in memory keeps, by its items and their buffer.
-use Rattle.sled_log.proofs.Names.{◌≡◌, ◌≤◌, ◌<◌, ◌+◌, ◌-◌, ℕ, Bool, zero, suc, true, false, cond, ◌==◌, nat_le, Option, Some, None, List, [], ◌∷◌, ◌++◌, length, take, drop, map, set, get_or, refl, sym, ◌∙◌, ap, subst, arith, pos, slice_get, IsNonDecreasingBy, and_parts, and_from, leb-true, le-leb, eqb-true, eq-eqb, length-drop, length-take-le, take-append-le, drop-append-le, take-append-drop, take_all, drop-map, get_or_default, drop-append_seam, sum_by-cons, offset_of, MessageKind, Corrupted, StoredItem, StoredMark, Event, seen_event, event_of_mark, event_of, size_of_mark, log_size, stands_at, are_placed, item_settled_at, items_settled_at, item_after_restart, KeptChange, LogItem, Entry, no_moment, moment_of, part, kept_mark, kept_item, kept_from, head_size, Mark, Held, payload_of, pointer_of, lies, blob_lies, is_within, size_of_stored, payload_size, are_within, last_of, place_after, start_after, bare_event_of, bare_event, settles_at, restarts, settle_all}
+use Rattle.sled_log.proofs.Names.{◌≡◌, ◌≤◌, ◌<◌, ◌+◌, ◌-◌, ℕ, Bool, zero, suc, true, false, cond, ◌==◌, nat_le, nat_lt, Option, Some, None, List, [], ◌∷◌, ◌++◌, length, take, drop, map, set, get_or, refl, sym, ◌∙◌, ap, subst, arith, pos, slice_get, IsNonDecreasingBy, and_parts, and_from, leb-true, le-leb, eqb-true, eq-eqb, length-drop, length-take-le, take-append-le, drop-append-le, take-append-drop, take_all, drop-map, get_or_default, drop-append_seam, sum_by-cons, offset_of, MessageKind, Corrupted, StoredItem, StoredMark, Event, seen_event, event_of_mark, event_of, size_of_mark, log_size, stands_at, are_placed, item_after_restart, KeptChange, LogItem, Entry, part, last_settled, settled_at, settled_behind, kept_mark, kept_item, kept_from, head_size, Mark, Held, payload_of, pointer_of, lies, blob_lies, is_within, size_of_stored, payload_size, are_within, last_of, place_after, start_after, bare_event_of, bare_event, came_by, last_came, restarts}
+use Rattle.std.proofs.lemmas.Bool.{false_from_ne_true, lt-ltb, ltb-true}
 use Rattle.std.proofs.lemmas.List.Edits.{map_over_more}
+use Rattle.sled_log.proofs.Moments.{or_settled, settled_by}
 use Rattle.sled_base.specs.declared.types.DiskPtr.TheVariants.{Inline, Blob}
 use Rattle.sled_log.specs.declared.memory.item.Mark.TheVariants as stored
 use Rattle.sled_log.specs.MemLog.Kept as kept
 
 -- where no item stands that one asks for
 abbrev pub no_item : StoredItem
-no_item = record { mark = stored.Change Corrupted 0 None; end = 0; payload_end = 0; came = 0; settled = 0 }
+no_item = record { mark = stored.Change Corrupted 0 None; end = 0; payload_end = 0; came = 0 }
 
 -- one item more that a loop changes in its place
 pub over_more : (f : StoredItem → StoredItem) (old items : List StoredItem) (i : ℕ) → i < length old → i < length items → items ≡ map f (take i old) ++ drop i old
@@ -51,19 +53,6 @@ within-restarts start end [] h = h
 within-restarts start end (x ∷ items) h =
     let a = first-within start end x items h in
     and_from (is_within start x) _ a.3 (within-restarts x.payload_end end items a.2)
-
-within-settles : (moment start end : ℕ) (items : List StoredItem) → are_within start end items ≡ true → are_within start end (map (settles_at moment) items) ≡ true
-within-settles moment start end [] h = h
-within-settles moment start end (x ∷ items) h =
-    let a = first-within start end x items h in
-    and_from (is_within start x) _ a.3 (within-settles moment x.payload_end end items a.2)
-
-pub within-settle_all : (moment from start end : ℕ) (items : List StoredItem) → are_within start end items ≡ true → are_within start end (settle_all moment from items) ≡ true
-within-settle_all moment zero start end items h = within-settles moment start end items h
-within-settle_all moment (suc from) start end [] h = h
-within-settle_all moment (suc from) start end (x ∷ items) h =
-    let a = first-within start end x items h in
-    and_from (is_within start x) _ a.3 (within-settle_all moment from x.payload_end end items a.2)
 
 pub start-take : (start end n : ℕ) (items : List StoredItem) → are_within start end items ≡ true → start_after start (take n items) ≤ end
 start-take start end zero items h = (within-ends start end items h).1
@@ -110,6 +99,80 @@ last-says says n (y ∷ z ∷ items) x is =
     let e : length (y ∷ z ∷ items) - 1 ≡ suc (length (z ∷ items) - 1) = omega arith in
     last-says says (says y) (z ∷ items) x (subst (λ k. slice_get (y ∷ z ∷ items) k ≡ Some x) e is)
 
+pub last-pushed : (says : StoredItem → ℕ) (n : ℕ) (items : List StoredItem) (x : StoredItem) → last_of says n (items ++ x ∷ []) ≡ says x
+last-pushed says n [] x = refl
+last-pushed says n (y ∷ items) x = last-pushed says (says y) items x
+
+pub last-restarted : (items : List StoredItem) → last_came 0 (map restarts items) ≡ 0
+last-restarted [] = refl
+last-restarted (x ∷ items) = last-restarted items
+
+-- ---- when an item became stable
+
+-- an item that came then, where the last before it came at `before`: at the next moment, or behind that at which all became stable
+abbrev pub Follows : Option ℕ → ℕ → ℕ → Type 0
+Follows last before came = 1 ≤ before → cond (came == before + 1) None (Some (before + 1)) ≡ last
+
+-- what the clock says of the last item
+module _ (clock stable : ℕ) (items : List StoredItem) where
+  pub pends : stable < length items → (last_settled clock stable items ≡ None) × (came_by clock stable items ≡ clock)
+  pends lt = let some = lt-ltb stable (length items) lt in (ap (λ b. cond b None (Some clock)) some, ap (λ b. cond b clock (clock - 1)) some)
+
+  pub rests : length items ≤ stable → (last_settled clock stable items ≡ Some clock) × (came_by clock stable items ≡ clock - 1)
+  rests le =
+      let none = false_from_ne_true (nat_lt stable (length items)) (λ h. let lt = ltb-true stable (length items) h in omega (arith, lt, le)) in
+      (ap (λ b. cond b None (Some clock)) none, ap (λ b. cond b clock (clock - 1)) none)
+
+  pub follows-clock : last_came 0 items ≡ came_by clock stable items → Follows (last_settled clock stable items) (last_came 0 items) (clock + 1)
+  follows-clock timed = λ some. by (nat_lt stable (length items)) some timed
+    where
+      by : (b : Bool) → 1 ≤ last_came 0 items → last_came 0 items ≡ cond b clock (clock - 1) → cond (clock + 1 == last_came 0 items + 1) None (Some (last_came 0 items + 1)) ≡ cond b None (Some clock)
+      by true some is = ap (λ b. cond b None (Some (last_came 0 items + 1))) (eq-eqb (clock + 1) (last_came 0 items + 1) (omega (arith, is)))
+      by false some is =
+          ap (λ b. cond b None (Some (last_came 0 items + 1))) (false_from_ne_true (clock + 1 == last_came 0 items + 1) (λ h. let e = eqb-true (clock + 1) (last_came 0 items + 1) h in omega (arith, e, is, some)))
+          ∙ ap (λ n. Some n) (let e : last_came 0 items + 1 ≡ clock = omega (arith, is, some) in e)
+
+pub came-first : (stable : ℕ) (items : List StoredItem) → came_by 0 stable items ≡ 0
+came-first stable items = by (nat_lt stable (length items))
+  where
+    by : (b : Bool) → cond b 0 (0 - 1) ≡ 0
+    by true = refl
+    by false = refl
+
+-- what comes at a moment behind the first is pending
+pub new-pends : (clock : ℕ) → settled_at None (clock + 1) [] ≡ None
+new-pends clock = ap (λ b. cond b (Some 0) None) (false_from_ne_true (clock + 1 == 0) (λ h. let e = eqb-true (clock + 1) 0 h in omega (arith, e)))
+
+settled-late : (last : Option ℕ) (n : ℕ) (items : List StoredItem) → settled_at last (suc n) items ≡ settled_behind last (suc n) items
+settled-late last n items = ap (λ b. cond b (Some 0) (settled_behind last (suc n) items)) (false_from_ne_true (suc n == 0) (λ h. let e = eqb-true (suc n) 0 h in omega (arith, e)))
+
+behind-push : (last : Option ℕ) (x : StoredItem) (came : ℕ) (items : List StoredItem) → 1 ≤ came → Follows last (last_came came items) x.came → settled_behind None came (items ++ x ∷ []) ≡ settled_behind last came items
+behind-push last x came [] some follows = follows some
+behind-push last x came (y ∷ items) some follows = by (behind-push last x y.came items) (y.came == came + 1) refl
+  where
+    by : (1 ≤ y.came → Follows last (last_came y.came items) x.came → settled_behind None y.came (items ++ x ∷ []) ≡ settled_behind last y.came items)
+        → (b : Bool) → (y.came == came + 1) ≡ b → cond b (settled_behind None y.came (items ++ x ∷ [])) (Some (came + 1)) ≡ cond b (settled_behind last y.came items) (Some (came + 1))
+    by rest true next = rest (let e = eqb-true y.came (came + 1) next in omega (arith, e)) follows
+    by rest false next = refl
+
+settled-push : (last : Option ℕ) (x : StoredItem) (came : ℕ) (items : List StoredItem) → Follows last (last_came came items) x.came → settled_at None came (items ++ x ∷ []) ≡ settled_at last came items
+settled-push last x zero items follows = refl
+settled-push last x (suc n) items follows = settled-late None n (items ++ x ∷ []) ∙ behind-push last x (suc n) items (omega arith) follows ∙ sym (settled-late last n items)
+
+-- what is pending becomes stable then
+behind-now : (moment came : ℕ) (items : List StoredItem) → settled_behind (Some moment) came items ≡ or_settled moment (settled_behind None came items)
+behind-now moment came [] = refl
+behind-now moment came (y ∷ items) = by (behind-now moment y.came items) (y.came == came + 1)
+  where
+    by : settled_behind (Some moment) y.came items ≡ or_settled moment (settled_behind None y.came items)
+        → (b : Bool) → cond b (settled_behind (Some moment) y.came items) (Some (came + 1)) ≡ or_settled moment (cond b (settled_behind None y.came items) (Some (came + 1)))
+    by rest true = rest
+    by rest false = refl
+
+settled-now : (moment came : ℕ) (items : List StoredItem) → settled_at (Some moment) came items ≡ or_settled moment (settled_at None came items)
+settled-now moment zero items = refl
+settled-now moment (suc n) items = settled-late (Some moment) n items ∙ behind-now moment (suc n) items ∙ ap (or_settled moment) (sym (settled-late None n items))
+
 module _ (limit : ℕ) where
   -- ---- what is kept
 
@@ -124,69 +187,52 @@ module _ (limit : ℕ) where
   mark-longer bytes more place end payload stored.Seal h le = refl
   mark-longer bytes more place end payload stored.Cancel h le = refl
 
-  item-longer : (bytes more : List ℕ) (place end : ℕ) (payload : List ℕ) (x : StoredItem) → lies end x.mark ≡ true → end ≤ length bytes → kept_item limit (bytes ++ more) place payload x ≡ kept_item limit bytes place payload x
-  item-longer bytes more place end payload x h le = ap (λ (m : Mark). record { mark = m; end = x.end; came = x.came; settled = moment_of x.settled }) (mark-longer bytes more place end payload x.mark h le)
+  item-longer : (bytes more : List ℕ) (place end : ℕ) (payload : List ℕ) (settled : Option ℕ) (x : StoredItem) → lies end x.mark ≡ true → end ≤ length bytes → kept_item limit (bytes ++ more) place payload settled x ≡ kept_item limit bytes place payload settled x
+  item-longer bytes more place end payload settled x h le = ap (λ (m : Mark). record { mark = m; end = x.end; came = x.came; settled = settled }) (mark-longer bytes more place end payload x.mark h le)
 
-  pub kept-longer : (bytes more : List ℕ) (place start end : ℕ) (items : List StoredItem) → are_within start end items ≡ true → end ≤ length bytes → kept_from limit (bytes ++ more) place start items ≡ kept_from limit bytes place start items
-  kept-longer bytes more place start end [] h le = refl
-  kept-longer bytes more place start end (x ∷ items) h le =
+  pub kept-longer : (bytes more : List ℕ) (last : Option ℕ) (place start end : ℕ) (items : List StoredItem) → are_within start end items ≡ true → end ≤ length bytes → kept_from limit (bytes ++ more) last place start items ≡ kept_from limit bytes last place start items
+  kept-longer bytes more last place start end [] h le = refl
+  kept-longer bytes more last place start end (x ∷ items) h le =
       let a = first-within start end x items h in
       let rest = within-ends x.payload_end end items a.2 in
-      ap (λ (payload : List ℕ). kept_item limit (bytes ++ more) place payload x ∷ kept_from limit (bytes ++ more) x.end x.payload_end items) (part-longer start x.payload_end bytes more a.0 (omega (arith, rest.1, le)))
-      ∙ ap (λ (item : LogItem). item ∷ kept_from limit (bytes ++ more) x.end x.payload_end items) (item-longer bytes more place x.payload_end (part start x.payload_end bytes) x a.1 (omega (arith, rest.1, le)))
-      ∙ ap (λ (l : List LogItem). kept_item limit bytes place (part start x.payload_end bytes) x ∷ l) (kept-longer bytes more x.end x.payload_end end items a.2 le)
+      let settled : Option ℕ = settled_at last x.came items in
+      ap (λ (payload : List ℕ). kept_item limit (bytes ++ more) place payload settled x ∷ kept_from limit (bytes ++ more) last x.end x.payload_end items) (part-longer start x.payload_end bytes more a.0 (omega (arith, rest.1, le)))
+      ∙ ap (λ (item : LogItem). item ∷ kept_from limit (bytes ++ more) last x.end x.payload_end items) (item-longer bytes more place x.payload_end (part start x.payload_end bytes) settled x a.1 (omega (arith, rest.1, le)))
+      ∙ ap (λ (l : List LogItem). kept_item limit bytes place (part start x.payload_end bytes) settled x ∷ l) (kept-longer bytes more last x.end x.payload_end end items a.2 le)
 
   -- a buffer that is cut behind the last payload
-  pub kept-shorter : (bytes : List ℕ) (place start end : ℕ) (items : List StoredItem) → are_within start end items ≡ true → end ≤ length bytes → kept_from limit (take end bytes) place start items ≡ kept_from limit bytes place start items
-  kept-shorter bytes place start end items h le =
-      sym (kept-longer (take end bytes) (drop end bytes) place start end items h (omega (arith, le, length-take-le end bytes le)))
-      ∙ ap (λ (b : List ℕ). kept_from limit b place start items) (take-append-drop end bytes)
+  pub kept-shorter : (bytes : List ℕ) (last : Option ℕ) (place start end : ℕ) (items : List StoredItem) → are_within start end items ≡ true → end ≤ length bytes → kept_from limit (take end bytes) last place start items ≡ kept_from limit bytes last place start items
+  kept-shorter bytes last place start end items h le =
+      sym (kept-longer (take end bytes) (drop end bytes) last place start end items h (omega (arith, le, length-take-le end bytes le)))
+      ∙ ap (λ (b : List ℕ). kept_from limit b last place start items) (take-append-drop end bytes)
 
-  module _ (bytes : List ℕ) where
+  module _ (bytes : List ℕ) (last : Option ℕ) where
     abbrev kept_of : ℕ → ℕ → List StoredItem → List LogItem
-    kept_of place start items = kept_from limit bytes place start items
+    kept_of place start items = kept_from limit bytes last place start items
 
     pub kept-length : (place start : ℕ) (items : List StoredItem) → length (kept_of place start items) ≡ length items
     kept-length place start [] = refl
     kept-length place start (x ∷ items) = ap suc (kept-length x.end x.payload_end items)
 
-    pub kept-take : (place start n : ℕ) (items : List StoredItem) → kept_of place start (take n items) ≡ take n (kept_of place start items)
-    kept-take place start zero items = refl
-    kept-take place start (suc n) [] = refl
-    kept-take place start (suc n) (x ∷ items) = ap (λ (l : List LogItem). kept_item limit bytes place (part start x.payload_end bytes) x ∷ l) (kept-take x.end x.payload_end n items)
+    -- one more that is pending
+    pub kept-push : (place start came : ℕ) (items : List StoredItem) (x : StoredItem) → Follows last (last_came came items) x.came
+        → kept_from limit bytes None place start (items ++ x ∷ []) ≡ kept_of place start items ++ kept_item limit bytes (place_after place items) (part (start_after start items) x.payload_end bytes) (settled_at None x.came []) x ∷ []
+    kept-push place start came [] x follows = refl
+    kept-push place start came (y ∷ items) x follows =
+        ap (λ (o : Option ℕ). kept_item limit bytes place (part start y.payload_end bytes) o y ∷ kept_from limit bytes None y.end y.payload_end (items ++ x ∷ [])) (settled-push last x y.came items follows)
+        ∙ ap (λ (l : List LogItem). kept_item limit bytes place (part start y.payload_end bytes) (settled_at last y.came items) y ∷ l) (kept-push y.end y.payload_end y.came items x follows)
 
-    pub kept-push : (place start : ℕ) (items : List StoredItem) (x : StoredItem) → kept_of place start (items ++ x ∷ []) ≡ kept_of place start items ++ kept_item limit bytes (place_after place items) (part (start_after start items) x.payload_end bytes) x ∷ []
-    kept-push place start [] x = refl
-    kept-push place start (y ∷ items) x = ap (λ (l : List LogItem). kept_item limit bytes place (part start y.payload_end bytes) y ∷ l) (kept-push y.end y.payload_end items x)
-
-    pub kept-restarts : (place start : ℕ) (items : List StoredItem) → kept_of place start (map restarts items) ≡ map item_after_restart (kept_of place start items)
-    kept-restarts place start [] = refl
-    kept-restarts place start (x ∷ items) = ap (λ (l : List LogItem). item_after_restart (kept_item limit bytes place (part start x.payload_end bytes) x) ∷ l) (kept-restarts x.end x.payload_end items)
-
-    module _ (moment : ℕ) (comes : moment < no_moment) where
-      some : moment_of moment ≡ Some moment
-      some = ap (λ b. cond b None (Some moment)) (by (moment == no_moment) refl)
-        where
-          by : (b : _) → (moment == no_moment) ≡ b → (moment == no_moment) ≡ false
-          by true h = absurd (omega (arith, comes, eqb-true moment no_moment h))
-          by false h = h
-
-      kept-settles : (place start : ℕ) (items : List StoredItem) → kept_of place start (map (settles_at moment) items) ≡ map (item_settled_at moment) (kept_of place start items)
-      kept-settles place start [] = refl
-      kept-settles place start (x ∷ items) =
-          let made : Option ℕ → LogItem = λ settled. record { mark = kept_mark limit bytes place (part start x.payload_end bytes) x.mark; end = x.end; came = x.came; settled = settled } in
-          ap (λ (o : Option ℕ). made o ∷ kept_of x.end x.payload_end (map (settles_at moment) items)) some ∙ ap (λ (l : List LogItem). made (Some moment) ∷ l) (kept-settles x.end x.payload_end items)
-
-      pub kept-settle_all : (from place start : ℕ) (items : List StoredItem) → kept_of place start (settle_all moment from items) ≡ items_settled_at moment from (kept_of place start items)
-      kept-settle_all zero place start items = kept-settles place start items
-      kept-settle_all (suc from) place start [] = refl
-      kept-settle_all (suc from) place start (x ∷ items) = ap (λ (l : List LogItem). kept_item limit bytes place (part start x.payload_end bytes) x ∷ l) (kept-settle_all from x.end x.payload_end items)
+    -- the first ones, which a crash leaves
+    pub kept-restarts : (then : Option ℕ) (place start n : ℕ) (items : List StoredItem) → kept_from limit bytes then place start (map restarts (take n items)) ≡ map item_after_restart (take n (kept_of place start items))
+    kept-restarts then place start zero items = refl
+    kept-restarts then place start (suc n) [] = refl
+    kept-restarts then place start (suc n) (x ∷ items) = ap (λ (l : List LogItem). item_after_restart (kept_item limit bytes place (part start x.payload_end bytes) None x) ∷ l) (kept-restarts then x.end x.payload_end n items)
 
     -- the item of a kept one
     pub kept-get : (place start i : ℕ) (items : List StoredItem) (item : LogItem) → slice_get (kept_of place start items) i ≡ Some item
-        → (x : StoredItem) × (slice_get items i ≡ Some x) × (item ≡ kept_item limit bytes (place_after place (take i items)) (part (start_after start (take i items)) x.payload_end bytes) x)
+        → (x : StoredItem) × (slice_get items i ≡ Some x) × (item.mark ≡ kept_mark limit bytes (place_after place (take i items)) (part (start_after start (take i items)) x.payload_end bytes) x.mark)
     kept-get place start i [] item is = absurd cc
-    kept-get place start zero (x ∷ items) item is = (x, refl, cc)
+    kept-get place start zero (x ∷ items) item is = (x, refl, ap (λ (y : LogItem). y.mark) (let same : item ≡ kept_item limit bytes place (part start x.payload_end bytes) (settled_at last x.came items) x = cc in same))
     kept-get place start (suc i) (x ∷ items) item is = kept-get x.end x.payload_end i items item is
 
     -- ---- places
@@ -195,7 +241,7 @@ module _ (limit : ℕ) where
     pub placed-after : (place start : ℕ) (items : List StoredItem) → are_placed place (kept_of place start items) ≡ true → place_after place items ≡ place + log_size (kept_of place start items)
     placed-after place start [] all = omega arith
     placed-after place start (x ∷ items) all =
-        let item : LogItem = kept_item limit bytes place (part start x.payload_end bytes) x in
+        let item : LogItem = kept_item limit bytes place (part start x.payload_end bytes) (settled_at last x.came items) x in
         let a = and_parts _ _ all in
         let b = and_parts (stands_at place item.mark) _ a.0 in
         let end = eqb-true x.end (place + size_of_mark item.mark) b.1 in
@@ -210,7 +256,7 @@ module _ (limit : ℕ) where
     -- ends rise, as those of what is kept do
     pub stored-rise : (place start : ℕ) (items : List StoredItem) → IsNonDecreasingBy (λ (item : LogItem). item.end) (kept_of place start items) → IsNonDecreasingBy (λ (item : StoredItem). item.end) items
     stored-rise place start items rise i j x le lt =
-        let item : LogItem = kept_item limit bytes 0 [] x in
+        let item : LogItem = kept_item limit bytes 0 [] None x in
         let more = rise i j item le (omega (arith, lt, kept-length place start items)) in
         omega (arith, more, kept-end place start i items item x (omega (arith, le, lt)), kept-end place start j items item x lt)
 
@@ -235,29 +281,39 @@ module _ (limit : ℕ) where
         ∙ drop-map (seen_event kind_of) n (map event_of (kept_of place start items))
         ∙ ap (map (seen_event kind_of)) (drop-map event_of n (kept_of place start items))
 
+  -- all that is pending becomes stable
+  pub kept-now : (bytes : List ℕ) (moment place start : ℕ) (items : List StoredItem) → kept_from limit bytes (Some moment) place start items ≡ map (settled_by moment) (kept_from limit bytes None place start items)
+  kept-now bytes moment place start [] = refl
+  kept-now bytes moment place start (x ∷ items) =
+      let payload : List ℕ = part start x.payload_end bytes in
+      ap (λ (o : Option ℕ). kept_item limit bytes place payload o x ∷ kept_from limit bytes (Some moment) x.end x.payload_end items) (settled-now moment x.came items)
+      ∙ ap (λ (l : List LogItem). settled_by moment (kept_item limit bytes place payload (settled_at None x.came items) x) ∷ l) (kept-now bytes moment x.end x.payload_end items)
+
   -- an item that is added with its payload
-  pub kept-add : (bytes more : List ℕ) (size : ℕ) (items : List StoredItem) (x : StoredItem) → are_within 0 (length bytes) items ≡ true → are_placed 0 (kept_from limit bytes 0 0 items) ≡ true → size ≡ log_size (kept_from limit bytes 0 0 items)
-      → x.payload_end ≡ length bytes + length more → lies (length bytes) x.mark ≡ true → kept_from limit (bytes ++ more) 0 0 (items ++ x ∷ []) ≡ kept_from limit bytes 0 0 items ++ kept_item limit bytes size more x ∷ []
-  kept-add bytes more size items x within placed sized is last =
-      let old : List LogItem = kept_from limit bytes 0 0 items in
+  pub kept-add : (bytes more : List ℕ) (last : Option ℕ) (size : ℕ) (items : List StoredItem) (x : StoredItem) → are_within 0 (length bytes) items ≡ true → are_placed 0 (kept_from limit bytes last 0 0 items) ≡ true → size ≡ log_size (kept_from limit bytes last 0 0 items)
+      → x.payload_end ≡ length bytes + length more → lies (length bytes) x.mark ≡ true → Follows last (last_came 0 items) x.came
+      → kept_from limit (bytes ++ more) None 0 0 (items ++ x ∷ []) ≡ kept_from limit bytes last 0 0 items ++ kept_item limit bytes size more (settled_at None x.came []) x ∷ []
+  kept-add bytes more last size items x within placed sized is lies follows =
+      let old : List LogItem = kept_from limit bytes last 0 0 items in
+      let settled : Option ℕ = settled_at None x.came [] in
       let payload : List ℕ = part (start_after 0 items) x.payload_end (bytes ++ more) in
-      kept-push (bytes ++ more) 0 0 items x
-      ∙ ap (λ (l : List LogItem). l ++ kept_item limit (bytes ++ more) (place_after 0 items) payload x ∷ []) (kept-longer bytes more 0 0 (length bytes) items within (omega arith))
-      ∙ ap (λ n. old ++ kept_item limit (bytes ++ more) n payload x ∷ []) (let e = placed-after bytes 0 0 items placed in omega (arith, e, sized))
-      ∙ ap (λ (l : List ℕ). old ++ kept_item limit (bytes ++ more) size l x ∷ []) (ap (λ n. part n x.payload_end (bytes ++ more)) (within-ends 0 (length bytes) items within).0 ∙ ap (λ n. part (length bytes) n (bytes ++ more)) is ∙ part-behind bytes more)
-      ∙ ap (λ (item : LogItem). old ++ item ∷ []) (item-longer bytes more size (length bytes) more x last (omega arith))
+      kept-push (bytes ++ more) last 0 0 0 items x follows
+      ∙ ap (λ (l : List LogItem). l ++ kept_item limit (bytes ++ more) (place_after 0 items) payload settled x ∷ []) (kept-longer bytes more last 0 0 (length bytes) items within (omega arith))
+      ∙ ap (λ n. old ++ kept_item limit (bytes ++ more) n payload settled x ∷ []) (let e = placed-after bytes last 0 0 items placed in omega (arith, e, sized))
+      ∙ ap (λ (l : List ℕ). old ++ kept_item limit (bytes ++ more) size l settled x ∷ []) (ap (λ n. part n x.payload_end (bytes ++ more)) (within-ends 0 (length bytes) items within).0 ∙ ap (λ n. part (length bytes) n (bytes ++ more)) is ∙ part-behind bytes more)
+      ∙ ap (λ (item : LogItem). old ++ item ∷ []) (item-longer bytes more size (length bytes) more settled x lies (omega arith))
 
   -- what a crash leaves, with the buffer cut behind its last payload
-  pub kept-stopped : (bytes : List ℕ) (n : ℕ) (items : List StoredItem) → are_within 0 (length bytes) items ≡ true → (let left : List StoredItem = map restarts (take n items) in
-      (kept_from limit (take (start_after 0 left) bytes) 0 0 left ≡ map item_after_restart (take n (kept_from limit bytes 0 0 items))) × (are_within 0 (length (take (start_after 0 left) bytes)) left ≡ true))
-  kept-stopped bytes n items h =
+  pub kept-stopped : (bytes : List ℕ) (last then : Option ℕ) (n : ℕ) (items : List StoredItem) → are_within 0 (length bytes) items ≡ true → (let left : List StoredItem = map restarts (take n items) in
+      (kept_from limit (take (start_after 0 left) bytes) then 0 0 left ≡ map item_after_restart (take n (kept_from limit bytes last 0 0 items))) × (are_within 0 (length (take (start_after 0 left) bytes)) left ≡ true))
+  kept-stopped bytes last then n items h =
       let first : List StoredItem = take n items in
       let end : ℕ = start_after 0 first in
       let within = within-take 0 (length bytes) n items h in
       let within_left = within-restarts 0 end first within in
       let same : start_after 0 (map restarts first) ≡ end = (within-ends 0 end (map restarts first) within_left).0 in
       let le = start-take 0 (length bytes) n items h in (
-        ap (λ e. kept_from limit (take e bytes) 0 0 (map restarts first)) same ∙ kept-restarts (take end bytes) 0 0 first ∙ ap (map item_after_restart) (kept-shorter bytes 0 0 end first within le ∙ kept-take bytes 0 0 n items),
+        ap (λ e. kept_from limit (take e bytes) then 0 0 (map restarts first)) same ∙ kept-shorter bytes then 0 0 end (map restarts first) within_left le ∙ kept-restarts bytes last then 0 0 n items,
         ap (λ e. are_within 0 (length (take e bytes)) (map restarts first)) same ∙ ap (λ e. are_within 0 e (map restarts first)) (length-take-le end bytes le) ∙ within_left,
       )
 
@@ -271,12 +327,12 @@ module _ (limit : ℕ) where
   change-is bytes place payload change stored.Seal h = absurd cc
   change-is bytes place payload change stored.Cancel h = absurd cc
 
-  pub finds : (bytes : List ℕ) (items : List StoredItem) (i : ℕ) (item : LogItem) (change : KeptChange) → slice_get (kept_from limit bytes 0 0 items) i ≡ Some item → item.mark ≡ kept.Change change
+  pub finds : (bytes : List ℕ) (last : Option ℕ) (items : List StoredItem) (i : ℕ) (item : LogItem) (change : KeptChange) → slice_get (kept_from limit bytes last 0 0 items) i ≡ Some item → item.mark ≡ kept.Change change
       → (x : StoredItem) × (slice_get items i ≡ Some x) × (blob : Option Held) × (x.mark ≡ stored.Change change.kind change.pid blob) × (change.payload ≡ payload_of bytes (part (start_after 0 (take i items)) x.payload_end bytes) blob)
-  finds bytes items i item change is mark =
-      let got = kept-get bytes 0 0 i items item is in
+  finds bytes last items i item change is mark =
+      let got = kept-get bytes last 0 0 i items item is in
       let x : StoredItem = got.0 in
-      let both = change-is bytes (place_after 0 (take i items)) (part (start_after 0 (take i items)) x.payload_end bytes) change x.mark (ap (λ (y : LogItem). y.mark) (sym got.2) ∙ mark) in
+      let both = change-is bytes (place_after 0 (take i items)) (part (start_after 0 (take i items)) x.payload_end bytes) change x.mark (sym got.2 ∙ mark) in
       (x, got.1, both.0, both.1, both.2)
 
 -- a pointer leads to its place

@@ -1,5 +1,5 @@
 -- The messages of the log in memory that are still to be named.
-use Rattle.sled_log.proofs.Names.{◌≡◌, ◌==◌, cond, nat_lt, ◌≤◌, ◌<◌, ◌+◌, ℕ, zero, suc, Bool, true, false, Option, Some, None, List, [], ◌∷◌, ◌++◌, length, take, drop, map, refl, sym, ◌∙◌, ap, subst, arith, slice_get, eqb-true, append-nil, drop-append-le, drop-map, map-append, take-add, length-append, offset_of, MessageKind, LogItem, Mark, Entry, Chain, effect_of_entry, chains_from, chains_after, chains_with_change, slice_set, Event, Change, Pin, Seal, Cancel, seen_event, LogKind, log_kind_of, event_of, named_by, named_in, kept_in, state_of, now, pointer_of, kept_mark, kept_from, part, place_after, start_after, before_mark, before_change, bare_event, bare_event_of, pages_with, pages_after, lies, settles_at, settle_all, MemLog, Held, StoredItem, StoredMark, le-leb, leb-true}
+use Rattle.sled_log.proofs.Names.{◌≡◌, ◌==◌, cond, nat_lt, ◌≤◌, ◌<◌, ◌+◌, ℕ, zero, suc, Bool, true, false, Option, Some, None, List, [], ◌∷◌, ◌++◌, length, take, drop, map, refl, sym, ◌∙◌, ap, subst, arith, slice_get, eqb-true, append-nil, drop-append-le, drop-map, map-append, take-add, length-append, offset_of, MessageKind, LogItem, Mark, Entry, Chain, effect_of_entry, chains_from, chains_after, chains_with_change, slice_set, Event, Change, Pin, Seal, Cancel, seen_event, LogKind, log_kind_of, event_of, named_by, named_in, kept_in, state_of, now, pointer_of, kept_mark, kept_from, part, place_after, start_after, before_mark, before_change, bare_event, bare_event_of, last_in, pages_with, pages_after, lies, MemLog, Held, StoredItem, StoredMark, le-leb, leb-true}
 use Rattle.std.proofs.Common.{◌||◌}
 use Rattle.std.proofs.Math.ListN.{length-set}
 use Rattle.std.proofs.lemmas.Bool.{ltb-true, lt-ltb, false_from_ne_true}
@@ -39,9 +39,9 @@ not-message m kind pid blob others is = ap (λ (x : StoredMark). before_mark x o
 same-page : (k l : MessageKind) (p q : ℕ) (a b : Option Held) → stored.Change k p a ≡ stored.Change l q b → p ≡ q
 same-page k l p q a b is = cc
 
-module _ (limit : ℕ) (bytes : List ℕ) where
+module _ (limit : ℕ) (bytes : List ℕ) (last : Option ℕ) where
   abbrev kept_of : ℕ → ℕ → List StoredItem → List LogItem
-  kept_of place start items = kept_from limit bytes place start items
+  kept_of place start items = kept_from limit bytes last place start items
 
   pub kept-drop : (n place start : ℕ) (items : List StoredItem) → drop n (kept_of place start items) ≡ kept_of (place_after place (take n items)) (start_after start (take n items)) (drop n items)
   kept-drop zero place start items = refl
@@ -119,11 +119,11 @@ module _ (self : MemLog) (n at : ℕ) (count : n ≡ before_change (drop self.cu
   got : slice_get behind_cursor (before_change behind_cursor) ≡ slice_get self.items.items at
   got = slice_get-drop self.cursor (before_change behind_cursor) self.items.items ∙ ap (slice_get self.items.items) (let e : self.cursor + before_change behind_cursor ≡ at = omega (arith, count, there) in e)
 
-  waits-as : named_in (drop self.cursor (kept_in self)) ≡ named_in (kept_from self.blob_limit self.bytes.items (place_after 0 (take self.cursor self.items.items)) (start_after 0 (take self.cursor self.items.items)) behind_cursor)
-  waits-as = ap named_in (kept-drop self.blob_limit self.bytes.items self.cursor 0 0 self.items.items)
+  waits-as : named_in (drop self.cursor (kept_in self)) ≡ named_in (kept_from self.blob_limit self.bytes.items (last_in self) (place_after 0 (take self.cursor self.items.items)) (start_after 0 (take self.cursor self.items.items)) behind_cursor)
+  waits-as = ap named_in (kept-drop self.blob_limit self.bytes.items (last_in self) self.cursor 0 0 self.items.items)
 
   pub names-none : slice_get self.items.items at ≡ None → named_in (drop self.cursor (kept_in self)) ≡ []
-  names-none none = waits-as ∙ none-is self.blob_limit self.bytes.items _ _ behind_cursor (got ∙ none)
+  names-none none = waits-as ∙ none-is self.blob_limit self.bytes.items (last_in self) _ _ behind_cursor (got ∙ none)
 
   pub names-message : (x : StoredItem) → slice_get self.items.items at ≡ Some x → ((kind : MessageKind) (pid : ℕ) (blob : Option Held) → x.mark ≡ stored.Change kind pid blob → ⊥) → ⊥
   names-message x is none = is-message behind_cursor x (got ∙ is) none
@@ -134,11 +134,11 @@ module _ (self : MemLog) (n at : ℕ) (count : n ≡ before_change (drop self.cu
       let place : ℕ = place_after 0 (take self.cursor self.items.items) in
       let k : ℕ = before_change behind_cursor in
       waits-as
-      ∙ first-is self.blob_limit self.bytes.items place (start_after 0 (take self.cursor self.items.items)) behind_cursor x kind pid blob (got ∙ is) marked
-      ∙ ap (λ (m : ℕ). (pid, m) ∷ named_in (drop (suc k) (kept_from self.blob_limit self.bytes.items place (start_after 0 (take self.cursor self.items.items)) behind_cursor)))
+      ∙ first-is self.blob_limit self.bytes.items (last_in self) place (start_after 0 (take self.cursor self.items.items)) behind_cursor x kind pid blob (got ∙ is) marked
+      ∙ ap (λ (m : ℕ). (pid, m) ∷ named_in (drop (suc k) (kept_from self.blob_limit self.bytes.items (last_in self) place (start_after 0 (take self.cursor self.items.items)) behind_cursor)))
       (sym (place-append 0 (take self.cursor self.items.items) (take k behind_cursor)) ∙ ap (place_after 0) (sym (take-add self.cursor k self.items.items)) ∙ ap (λ (m : ℕ). place_after 0 (take m self.items.items)) (let e : self.cursor + k ≡ at = omega (arith, count, there) in e))
       ∙ ap (λ (l : List LogItem). (pid, place_after 0 (take at self.items.items)) ∷ named_in l)
-      (ap (drop (suc k)) (sym (kept-drop self.blob_limit self.bytes.items self.cursor 0 0 self.items.items)) ∙ drop-drop (suc k) self.cursor (kept_in self) ∙ ap (λ (m : ℕ). drop m (kept_in self)) (let e : self.cursor + suc k ≡ at + 1 = omega (arith, count, there) in e))
+      (ap (drop (suc k)) (sym (kept-drop self.blob_limit self.bytes.items (last_in self) self.cursor 0 0 self.items.items)) ∙ drop-drop (suc k) self.cursor (kept_in self) ∙ ap (λ (m : ℕ). drop m (kept_in self)) (let e : self.cursor + suc k ≡ at + 1 = omega (arith, count, there) in e))
 
 -- which message is due where enough were appended
 pub due-is : (pages every : ℕ) (moves : Moves) → (every ≡ 0 → ⊥) → every ≤ moves.appended → due_among pages every moves ≡ first_of pages moves.waiting
@@ -209,7 +209,7 @@ pages-are chains (Cancel ∷ events) = pages-are chains events
 pub pages-now : (self : MemLog) → self.pages ≡ length (now effect_of_entry (state_of self))
 pages-now self =
     self.paged
-    ∙ ap (pages_after 0) (sym (bare-events self.blob_limit self.bytes.items 0 0 self.items.items))
+    ∙ ap (pages_after 0) (sym (bare-events self.blob_limit self.bytes.items (last_in self) 0 0 self.items.items))
     ∙ sym (pages-are [] (map event_of (kept_in self)))
     ∙ ap length (sym (now_is self.clock self.stable (kept_in self) self.in_order))
 
@@ -246,15 +246,6 @@ one-page n (stored.Change kind pid blob) = pages-few n pid (log_kind_of kind)
 one-page n stored.Pin = omega arith
 one-page n stored.Seal = omega arith
 one-page n stored.Cancel = omega arith
-
-bare-settles : (moment : ℕ) (items : List StoredItem) → map bare_event (map (settles_at moment) items) ≡ map bare_event items
-bare-settles moment [] = refl
-bare-settles moment (x ∷ items) = ap (λ (l : List (Event MessageKind)). bare_event x ∷ l) (bare-settles moment items)
-
-pub bare-settle_all : (moment from : ℕ) (items : List StoredItem) → map bare_event (settle_all moment from items) ≡ map bare_event items
-bare-settle_all moment zero items = bare-settles moment items
-bare-settle_all moment (suc from) [] = refl
-bare-settle_all moment (suc from) (x ∷ items) = ap (λ (l : List (Event MessageKind)). bare_event x ∷ l) (bare-settle_all moment from items)
 
 -- ---- blobs lie in a longer buffer
 

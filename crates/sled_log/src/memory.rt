@@ -13,7 +13,7 @@ ghost use Rattle.sled_log.specs.Messages.{effect_of_entry, message_size, placed_
 ghost use Rattle.sled_log.specs.Moves.{fresh_moves, moves_with};
 ghost use Rattle.sled_log.specs.Pages.{IsSized};
 ghost use Rattle.sled_log.specs.LogState.{LogState, now, unplaced_state};
-ghost use Rattle.sled_log.specs.Inside.Stored.{are_within, lies, blob_lies, size_of_stored, pages_after, bare_event};
+ghost use Rattle.sled_log.specs.Inside.Stored.{are_within, lies, blob_lies, size_of_stored, pages_after, bare_event, came_by, last_came};
 ghost use Rattle.sled_log.specs.MemLog.Stored.{kept_items, part, pointer_of};
 ghost use Rattle.sled_log.specs.declared.log.LogError.TheVariants.{Memory, Full};
 ghost use Rattle.sled_log.specs.declared.memory.item.Held.{Held};
@@ -28,7 +28,7 @@ mod pages;
 use crate::LogError;
 use cuts::is_fair_cut;
 use finding::behind;
-use item::{HEAD, Held, LogItem, Mark, NEVER, payload_len};
+use item::{HEAD, Held, LogItem, Mark, payload_len};
 use keeping::{keep_first, push, room_for};
 use pages::{count_pages, said_at};
 use sled_base::growth::reserve;
@@ -37,8 +37,8 @@ use std::alloc::Global;
 
 const MAX_SIZE: u64 = i64::MAX as u64;
 
-/// A log in memory. Each item keeps when it came and when it became durable, so the crash states of each moment are known
-/// from what is stored.
+/// A log in memory. Each item keeps when it came, which tells when it became durable too, so the crash states of each moment are
+/// known from what is stored.
 #[derive(Drop)]
 pub struct MemLog {
     alloc: Global,
@@ -64,14 +64,15 @@ pub struct MemLog {
     reads: u64,
     ghost within: { IsTrue (are_within 0 (length bytes.items) items.items) },
     ghost fewer: { stable ≤ length items.items },
-    ghost in_order: { IsInOrder clock stable (kept_items blob_limit bytes.items items.items) },
+    ghost in_order: { IsInOrder clock stable (kept_items blob_limit bytes.items clock stable items.items) },
     ghost counted: { clock ≤ length items.items + stable },
-    ghost sized: { size ≡ log_size (kept_items blob_limit bytes.items items.items) },
-    ghost stable_sized: { stable_size ≡ log_size (take stable (kept_items blob_limit bytes.items items.items)) },
+    ghost timed: { last_came 0 items.items ≡ came_by clock stable items.items },
+    ghost sized: { size ≡ log_size (kept_items blob_limit bytes.items clock stable items.items) },
+    ghost stable_sized: { stable_size ≡ log_size (take stable (kept_items blob_limit bytes.items clock stable items.items)) },
     ghost fits: { size < size_limit },
-    ghost placed: { IsTrue (are_placed 0 (kept_items blob_limit bytes.items items.items)) },
-    ghost batch_is: { batch ≡ is_open (map event_of (drop stable (kept_items blob_limit bytes.items items.items))) },
-    ghost holds_blobs: { IsTrue (are_held [] (marks_of (kept_items blob_limit bytes.items items.items))) },
+    ghost placed: { IsTrue (are_placed 0 (kept_items blob_limit bytes.items clock stable items.items)) },
+    ghost batch_is: { batch ≡ is_open (map event_of (drop stable (kept_items blob_limit bytes.items clock stable items.items))) },
+    ghost holds_blobs: { IsTrue (are_held [] (marks_of (kept_items blob_limit bytes.items clock stable items.items))) },
     ghost paged: { pages ≡ pages_after 0 (map bare_event items.items) },
     ghost few_pages: { pages ≤ length items.items },
     ghost cursor_within: { cursor ≤ length items.items },
@@ -212,7 +213,6 @@ impl MemLog {
             end: self.size,
             payload_end: self.bytes.len() + payload.len(),
             came: self.clock,
-            settled: NEVER,
         };
         push(&mut self.items, &mut self.bytes, item, payload);
         Ok(())

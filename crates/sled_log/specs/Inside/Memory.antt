@@ -8,7 +8,7 @@ use Rattle.sled_log.specs.declared.log.LogError.{LogError}
 use Rattle.sled_log.specs.declared.memory.MemLog.{MemLog}
 use Rattle.sled_log.specs.MemLog.Kept.{Mark}
 use Rattle.sled_log.specs.MemLog.State.{clock_of, kept_in, settings_of, state_of}
-use Rattle.sled_log.specs.MemLog.Stored.{kept_mark, payload_of}
+use Rattle.sled_log.specs.MemLog.Stored.{kept_mark, last_settled, payload_of}
 use Rattle.sled_log.specs.declared.memory.item.Held.{Held}
 use Rattle.sled_log.specs.declared.memory.item.Mark.{Mark as StoredMark}
 use Rattle.sled_base.specs.declared.kinds.MessageKind.{MessageKind}
@@ -22,6 +22,10 @@ pub record Remembers (old new : MemLog) : Type 0 where
   pub later : clock_of old ≤ clock_of new
   pub one : clock_of new ≤ clock_of old + 1
   pub past : (moment : ℕ) → moment ≤ clock_of old → was_at moment new ≡ was_at moment old
+
+-- when its last items became stable
+abbrev pub last_in : MemLog → Option ℕ
+last_in log = last_settled log.clock log.stable log.items.items
 
 abbrev pub pending_size_of : MemLog → ℕ
 pending_size_of log = log_size (drop log.stable (kept_in log))

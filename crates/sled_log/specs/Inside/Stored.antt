@@ -1,5 +1,5 @@
--- What always holds of the stored items, and what settling makes of them.
-use Rattle.std.specs.Prelude.{ℕ, suc, ◌+◌, Bool, true, ◌&&◌, nat_le, Option, Some, None, List, [], ◌∷◌, ◌++◌, take, drop, map, ◌==◌, if◌then◌else◌}
+-- What always holds of the stored items, and what a crash makes of them.
+use Rattle.std.specs.Prelude.{ℕ, suc, ◌+◌, ◌-◌, Bool, true, ◌&&◌, nat_le, nat_lt, Option, Some, None, List, [], ◌∷◌, length, ◌==◌, if◌then◌else◌}
 use Rattle.sled_base.specs.declared.kinds.MessageKind.{MessageKind}
 use Rattle.sled_base.specs.Kinds.{log_kind_of}
 use Rattle.sled_base.specs.declared.kinds.LogKind.{LogKind}
@@ -79,16 +79,16 @@ pages_after pages (Pin ∷ events) = pages_after pages events
 pages_after pages (Seal ∷ events) = pages_after pages events
 pages_after pages (Cancel ∷ events) = pages_after pages events
 
--- an item that becomes stable, and one that a crash left
-abbrev pub settles_at : ℕ → StoredItem → StoredItem
-settles_at moment item = record { mark = item.mark; end = item.end; payload_end = item.payload_end; came = item.came; settled = moment }
-
+-- an item that a crash left
 abbrev pub restarts : StoredItem → StoredItem
-restarts item = record { mark = item.mark; end = item.end; payload_end = item.payload_end; came = 0; settled = 0 }
+restarts item = record { mark = item.mark; end = item.end; payload_end = item.payload_end; came = 0 }
 
--- the items after all from a place on became stable
-abbrev pub settle_all : ℕ → ℕ → List StoredItem → List StoredItem
-settle_all moment from items = take from items ++ map (settles_at moment) (drop from items)
+-- when the last item came, and when it did by the clock: at the last moment, or at the one before it where all became stable since
+abbrev pub last_came : ℕ → List StoredItem → ℕ
+last_came came items = last_of (λ item. item.came) came items
+
+abbrev pub came_by : ℕ → ℕ → List StoredItem → ℕ
+came_by clock stable items = if nat_lt stable (length items) then clock else clock - 1
 
 -- whether it is a message, or else how many come before the first one behind it
 abbrev pub before_mark : StoredMark → ℕ → ℕ

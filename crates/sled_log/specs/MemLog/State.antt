@@ -13,7 +13,7 @@ use Rattle.sled_log.specs.declared.memory.MemLog.{MemLog}
 
 -- what it keeps
 abbrev pub kept_in : MemLog → List LogItem
-kept_in log = kept_items log.blob_limit log.bytes.items log.items.items
+kept_in log = kept_items log.blob_limit log.bytes.items log.clock log.stable log.items.items
 
 abbrev pub state_of : MemLog → LogState Entry
 state_of log = state_at log.clock (kept_in log)

@@ -1,5 +1,6 @@
--- How the log in memory stores its items: one buffer has all payloads, and each item says where its own ends there.
-use Rattle.std.specs.Prelude.{◌+◌, ◌-◌, ◌^◌, ℕ, pos, Option, Some, None, List, [], ◌∷◌, take, drop, ◌==◌, if◌then◌else◌}
+-- How the log in memory stores its items: one buffer has all payloads, and each item says where its own ends there. When an item
+-- became stable follows from when the others came.
+use Rattle.std.specs.Prelude.{◌+◌, ◌-◌, ℕ, pos, nat_lt, Option, Some, None, List, [], ◌∷◌, length, take, drop, ◌==◌, if◌then◌else◌}
 use Rattle.sled_base.specs.declared.types.DiskPtr.{DiskPtr}
 use Rattle.sled_base.specs.declared.types.DiskPtr.TheVariants.{Blob}
 use Rattle.sled_log.specs.declared.memory.item.Held.{Held}
@@ -10,12 +11,19 @@ use Rattle.sled_log.specs.MemLog.Items.{pointer_at}
 use Rattle.sled_log.specs.MemLog.Kept.{Mark, LogItem}
 use Rattle.sled_log.specs.MemLog.Kept as kept
 
--- a moment that never comes: what is stable from then on is pending
-abbrev pub no_moment : ℕ
-no_moment = 2 ^ 64 - 1
+-- When an item that came at that moment became stable, by the items behind it: they came one moment after another, and where one
+-- moment is left out all before it became stable then. The last ones became stable at `last`.
+abbrev pub settled_behind : Option ℕ → ℕ → List StoredItem → Option ℕ
+settled_behind last came [] = last
+settled_behind last came (item ∷ items) = if item.came == came + 1 then settled_behind last item.came items else Some (came + 1)
 
-abbrev pub moment_of : ℕ → Option ℕ
-moment_of at = if at == no_moment then None else Some at
+-- what was there when the log began was stable
+abbrev pub settled_at : Option ℕ → ℕ → List StoredItem → Option ℕ
+settled_at last came items = if came == 0 then Some 0 else settled_behind last came items
+
+-- the last ones are pending, or became stable at the last moment
+abbrev pub last_settled : ℕ → ℕ → List StoredItem → Option ℕ
+last_settled clock stable items = if nat_lt stable (length items) then None else Some clock
 
 -- the bytes of the buffer from one place up to another
 abbrev pub part : ℕ → ℕ → List ℕ → List ℕ
@@ -38,14 +46,15 @@ kept_mark limit bytes place payload stored.Pin = kept.Pin
 kept_mark limit bytes place payload stored.Seal = kept.Seal
 kept_mark limit bytes place payload stored.Cancel = kept.Cancel
 
-abbrev pub kept_item : ℕ → List ℕ → ℕ → List ℕ → StoredItem → LogItem
-kept_item limit bytes place payload item = record { mark = kept_mark limit bytes place payload item.mark; end = item.end; came = item.came; settled = moment_of item.settled }
+abbrev pub kept_item : ℕ → List ℕ → ℕ → List ℕ → Option ℕ → StoredItem → LogItem
+kept_item limit bytes place payload settled item = record { mark = kept_mark limit bytes place payload item.mark; end = item.end; came = item.came; settled = settled }
 
 -- the items with their payloads, where the first of them stands there in the log, and its payload there in the buffer
-abbrev pub kept_from : ℕ → List ℕ → ℕ → ℕ → List StoredItem → List LogItem
-kept_from limit bytes place start [] = []
-kept_from limit bytes place start (item ∷ items) = kept_item limit bytes place (part start item.payload_end bytes) item ∷ kept_from limit bytes item.end item.payload_end items
+abbrev pub kept_from : ℕ → List ℕ → Option ℕ → ℕ → ℕ → List StoredItem → List LogItem
+kept_from limit bytes last place start [] = []
+kept_from limit bytes last place start (item ∷ items) =
+    kept_item limit bytes place (part start item.payload_end bytes) (settled_at last item.came items) item ∷ kept_from limit bytes last item.end item.payload_end items
 
--- what the log keeps, by its limit of payloads that are no blobs, its buffer, and its items
-abbrev pub kept_items : ℕ → List ℕ → List StoredItem → List LogItem
-kept_items limit bytes items = kept_from limit bytes 0 0 items
+-- what the log keeps, by its limit of payloads that are no blobs, its buffer, its clock, how many items are stable, and its items
+abbrev pub kept_items : ℕ → List ℕ → ℕ → ℕ → List StoredItem → List LogItem
+kept_items limit bytes clock stable items = kept_from limit bytes (last_settled clock stable items) 0 0 items

@@ -21,7 +21,6 @@ ghost use Rattle.sled_log.specs.declared.log.LogError.TheVariants.{Memory, Full}
 use super::MemLog;
 use super::finding::{before_change, behind};
 use super::item::Mark;
-use super::keeping::settle_from;
 use super::pages::{apply, said_at};
 use crate::{Log, LogError, PageState, Payload};
 use sled_base::{BlobPointer, DiskPtr, LogOffset, Lsn, MessageKind, PageId};
@@ -160,7 +159,6 @@ impl Log for MemLog {
         let wrote = self.size - self.stable_size;
         if self.stable < self.items.len() {
             self.clock += 1;
-            settle_from(&mut self.items, self.stable, self.clock);
             self.stable = self.items.len();
             self.stable_size = self.size;
         }

@@ -12,9 +12,6 @@ use sled_base::{BlobPointer, LogKind, MessageKind, PageId};
 // What every message takes beside its payload.
 pub(super) const HEAD: u64 = 17;
 
-// When what is pending becomes stable, as an item says it. The clock doesn't reach it.
-pub(super) const NEVER: u64 = u64::MAX;
-
 // A blob that a message holds: the place of that message, and where its payload begins in the buffer and how long it is.
 #[derive(Clone, Copy)]
 pub(super) struct Held {
@@ -37,15 +34,14 @@ pub(super) enum Mark {
     Cancel,
 }
 
-// What the log was told, with the log sizes of all up to it, the place in the buffer where its payload ends, the moment when it
-// came, and that when it became stable.
+// What the log was told, with the log sizes of all up to it, the place in the buffer where its payload ends, and the moment when
+// it came. When it became stable follows from when the others came.
 #[derive(Drop)]
 pub(super) struct LogItem {
     pub(super) mark: Mark,
     pub(super) end: u64,
     pub(super) payload_end: usize,
     pub(super) came: u64,
-    pub(super) settled: u64,
 }
 
 impl Mark {

@@ -1,7 +1,7 @@
-// How the items of the log in memory are added and become stable, and what a crash does to them.
+// How the items of the log in memory are added, and what a crash does to them.
 
 ghost use Rattle.std.specs.Prelude.{◌≡◌, ◌≤◌, ◌<◌, ◌+◌, [], ◌∷◌, ◌++◌, length, take, map, true, false, vec_len, vec_capacity};
-ghost use Rattle.sled_log.specs.Inside.Stored.{settles_at, settle_all, restarts};
+ghost use Rattle.sled_log.specs.Inside.Stored.{restarts};
 
 use super::item::LogItem;
 
@@ -26,30 +26,12 @@ pub(super) fn push(items: &mut Vec<LogItem>, bytes: &mut Vec<u8>, item: LogItem,
     items.push_reserved(item);
 }
 
-// Makes these items stable.
-pub(super) fn settle(items: &mut [LogItem], now: u64)
-    ensures { items.new ≡ map (settles_at now) items.old }
-{
-    for item in items.iter_mut() {
-        item.settled = now;
-    }
-}
-
-// Makes the items from a place on stable.
-pub(super) fn settle_from(items: &mut Vec<LogItem>, from: usize, now: u64)
-    requires { from ≤ vec_len items.old }
-    ensures { items.new.items ≡ settle_all now from items.old.items }
-{
-    settle(&mut items[from..], now);
-}
-
 // Lets the clock begin again with these items, all of them stable.
 fn restart(items: &mut [LogItem])
     ensures { items.new ≡ map restarts items.old }
 {
     for item in items.iter_mut() {
         item.came = 0;
-        item.settled = 0;
     }
 }
 

@@ -1,10 +1,10 @@
-use Rattle.sled_log.proofs.Names.{named_by, named_in, lies, mark_in, bare_event, pages_after, ◌≡◌, ◌+◌, ◌≤◌, ℕ, true, false, None, List, [], ◌∷◌, ◌++◌, length, take, drop, map, refl, sym, ◌∙◌, ap, subst, arith, le-leb, and_from, eq-eqb, false≢true, length-append, take-append-le, drop-append-le, map-append, sum_by-append, err_from_is_err_and, is_open, open_after, event_of, event_of_mark, size_of_mark, is_waiting, log_size, stands_at, is_placed, are_placed, state_at, IsInOrder, open_after-append, IsFair-none, effect_of_entry, Adds, Mark, LogItem, kept_in, state_of, no_moment, are_within, kept_items, StoredItem}
+use Rattle.sled_log.proofs.Names.{named_by, named_in, lies, mark_in, bare_event, pages_after, ◌≡◌, ◌+◌, ◌≤◌, ◌<◌, ℕ, true, false, Option, None, List, [], ◌∷◌, ◌++◌, length, take, drop, map, refl, sym, ◌∙◌, ap, subst, arith, le-leb, and_from, eq-eqb, false≢true, length-append, take-append-le, drop-append-le, map-append, sum_by-append, err_from_is_err_and, is_open, open_after, event_of, event_of_mark, size_of_mark, is_waiting, log_size, stands_at, is_placed, are_placed, state_at, IsInOrder, open_after-append, IsFair-none, effect_of_entry, Adds, Mark, LogItem, came_by, kept_in, state_of, are_within, kept_from, kept_item, kept_items, last_came, last_in, StoredItem}
 use Rattle.sled_log.proofs.MemCalls.{batch-says, called_ok, called_memory}
 use Rattle.sled_log.specs.Inside.Blobs.{marks_of, are_held}
 use Rattle.sled_log.specs.Moves.{Moves}
 use Rattle.sled_log.proofs.Blobs.{held-push}
 use Rattle.sled_log.proofs.Waiting.{waiting-push, pages-push, one-page, lies-longer}
-use Rattle.sled_log.proofs.Stored.{kept-add, kept-length, within-push, stands-at, size-stored}
+use Rattle.sled_log.proofs.Stored.{follows-clock, kept-add, kept-length, last-pushed, new-pends, pends, within-push, stands-at, size-stored}
 use Rattle.sled_log.proofs.Moments.{order-push, stable-push, pending-push, state_at-push}
 use Rattle.sled_log.proofs.Places.{placed-push}
 use Rattle.sled_log.proofs.memory.MemLog.add.Goals.{After-push}
@@ -42,12 +42,13 @@ invariant_of-self c =
     let len = c.reserve.ensures.len in
     let more = c.reserve.ensures.capacity in
     let long = ap length same in
-    let kept : (List StoredItem → List LogItem) = λ l. kept_items self.blob_limit self.bytes.items l in
+    let kept : (List StoredItem → List LogItem) = λ l. kept_items self.blob_limit self.bytes.items self.clock self.stable l in
     record {
       within = ap (λ (l : List StoredItem). are_within 0 (length self.bytes.items) l) same ∙ self.within;
       fewer = let n = self.fewer in omega arith;
       in_order = subst (λ (l : List StoredItem). IsInOrder self.clock self.stable (kept l)) (sym same) self.in_order;
       counted = let n = self.counted in omega arith;
+      timed = ap (last_came 0) same ∙ self.timed ∙ ap (λ (l : List StoredItem). came_by self.clock self.stable l) (sym same);
       sized = self.sized ∙ ap (λ (l : List StoredItem). log_size (kept l)) (sym same);
       stable_sized = self.stable_sized ∙ ap (λ (l : List StoredItem). log_size (take self.stable (kept l))) (sym same);
       fits = self.fits;
@@ -65,7 +66,7 @@ pub returns-in_err-reserve-clause-called : goal.returns-in_err-reserve-clause-ca
 returns-in_err-reserve-clause-called c =
     let self = c.args.self.now in
     let p = err_from_is_err_and c.from_residual.result c.from_residual.ensures.1 in
-    rw (p.1, p.2) (called_memory self _ refl (ap (λ (l : List StoredItem). kept_items self.blob_limit self.bytes.items l) c.reserve.ensures.items) _ _ _ refl)
+    rw (p.1, p.2) (called_memory self _ refl (ap (λ (l : List StoredItem). kept_items self.blob_limit self.bytes.items self.clock self.stable l) c.reserve.ensures.items) _ _ _ refl)
 
 pub returns-in_err-reserve-clause-always : goal.returns-in_err-reserve-clause-always
 returns-in_err-reserve-clause-always c = λ opened closed none.
@@ -77,7 +78,7 @@ pub returns-in_err-reserve-2-clause-called : goal.returns-in_err-reserve-2-claus
 returns-in_err-reserve-2-clause-called c =
     let self = c.args.self.now in
     let p = err_from_is_err_and c.from_residual-in_err-reserve-2.result c.from_residual-in_err-reserve-2.ensures.1 in
-    rw (p.1, p.2) (called_memory self _ refl (ap (λ (l : List StoredItem). kept_items self.blob_limit c.reserve-2.new.items.items l) c.reserve.ensures.items ∙ ap (λ (b : List ℕ). kept_items self.blob_limit b self.items.items) c.reserve-2.ensures.items) _ _ _ refl)
+    rw (p.1, p.2) (called_memory self _ refl (ap (λ (l : List StoredItem). kept_items self.blob_limit c.reserve-2.new.items.items self.clock self.stable l) c.reserve.ensures.items ∙ ap (λ (b : List ℕ). kept_items self.blob_limit b self.clock self.stable self.items.items) c.reserve-2.ensures.items) _ _ _ refl)
 
 -- the blob that it names lies in the buffer
 within_buffer : (c : After-push) → lies (length c.args.self.now.bytes.items) c.args.mark ≡ true
@@ -89,7 +90,7 @@ size_is c = let self = c.args.self.now in c.size.ensures ∙ sym (size-stored se
 
 -- what is stored then, and what is kept
 abbrev added_item : After-push → StoredItem
-added_item c = record { mark = c.args.mark; end = c.args.self.now.size + c.size.result; payload_end = c.len.result + length c.args.payload.now; came = c.args.self.now.clock + 1; settled = no_moment }
+added_item c = record { mark = c.args.mark; end = c.args.self.now.size + c.size.result; payload_end = c.len.result + length c.args.payload.now; came = c.args.self.now.clock + 1 }
 
 pushed : (c : After-push) → c.push.new.items.items ≡ c.args.self.now.items.items ++ added_item c ∷ []
 pushed c = c.push.ensures.items ∙ ap (λ (l : List StoredItem). l ++ added_item c ∷ []) c.reserve.ensures.items
@@ -104,7 +105,7 @@ abbrev new_mark : After-push → Mark
 new_mark c = mark_in c.args.self.now c.args.mark c.args.payload.now
 
 abbrev new_kept : After-push → List LogItem
-new_kept c = kept_items c.args.self.now.blob_limit c.push.new.bytes.items c.push.new.items.items
+new_kept c = kept_items c.args.self.now.blob_limit c.push.new.bytes.items (c.args.self.now.clock + 1) c.args.self.now.stable c.push.new.items.items
 
 abbrev new_item : After-push → LogItem
 new_item c = item_at c.args.self.now.clock (c.args.self.now.size + c.size.result) (new_mark c)
@@ -112,12 +113,18 @@ new_item c = item_at c.args.self.now.clock (c.args.self.now.size + c.size.result
 waits : (c : After-push) → is_waiting (c.args.self.now.clock + 1) (new_item c) ≡ true
 waits c = let clock = c.args.self.now.clock in and_from _ _ (le-leb (clock + 1) (clock + 1) (omega arith)) refl
 
+-- there is one item more than before
+more : (c : After-push) → c.args.self.now.stable < length c.push.new.items.items
+more c = let self = c.args.self.now in let fewer = self.fewer in let long = ap length (pushed c) in omega (arith, fewer, long, length-append self.items.items (added_item c ∷ []))
+
 kept : (c : After-push) → new_kept c ≡ kept_in c.args.self.now ++ new_item c ∷ []
 kept c =
     let self = c.args.self.now in
-    ap (λ (l : List StoredItem). kept_items self.blob_limit c.push.new.bytes.items l) (pushed c)
-    ∙ ap (λ (b : List ℕ). kept_items self.blob_limit b (self.items.items ++ added_item c ∷ [])) (longer c)
-    ∙ kept-add self.blob_limit self.bytes.items c.args.payload.now self.size self.items.items (added_item c) self.within self.placed self.sized (ends c) (within_buffer c)
+    ap (λ (o : Option ℕ). kept_from self.blob_limit c.push.new.bytes.items o 0 0 c.push.new.items.items) (pends (self.clock + 1) self.stable c.push.new.items.items (more c)).0
+    ∙ ap (λ (l : List StoredItem). kept_from self.blob_limit c.push.new.bytes.items None 0 0 l) (pushed c)
+    ∙ ap (λ (b : List ℕ). kept_from self.blob_limit b None 0 0 (self.items.items ++ added_item c ∷ [])) (longer c)
+    ∙ kept-add self.blob_limit self.bytes.items c.args.payload.now (last_in self) self.size self.items.items (added_item c) self.within self.placed self.sized (ends c) (within_buffer c) (follows-clock self.clock self.stable self.items.items self.timed)
+    ∙ ap (λ (o : Option ℕ). kept_in self ++ kept_item self.blob_limit self.bytes.items self.size c.args.payload.now o (added_item c) ∷ []) (new-pends self.clock)
 
 pub invariant_of-self-2 : goal.invariant_of-self-2
 invariant_of-self-2 c =
@@ -126,13 +133,14 @@ invariant_of-self-2 c =
     let x : StoredItem = added_item c in
     let is = kept c in
     let long = ap length (pushed c) in
-    let more = length-append self.items.items (x ∷ []) in
+    let longer_by = length-append self.items.items (x ∷ []) in
     let sized : self.size + c.size.result ≡ log_size old + size_of_mark (new_mark c) = ap (λ n. self.size + n) (size_is c) ∙ ap (λ n. n + size_of_mark (new_mark c)) self.sized in
     record {
       within = ap (λ (l : List StoredItem). are_within 0 (length c.push.new.bytes.items) l) (pushed c) ∙ ap (λ n. are_within 0 n (self.items.items ++ x ∷ [])) (ap length (longer c) ∙ length-append self.bytes.items c.args.payload.now) ∙ within-push 0 (length self.bytes.items) (length c.args.payload.now) self.items.items x self.within (ends c) (lies-longer (length self.bytes.items) (length c.args.payload.now) c.args.mark (within_buffer c));
       fewer = let n = self.fewer in omega arith;
       in_order = subst (λ (l : List LogItem). IsInOrder (self.clock + 1) self.stable l) (sym is) (order-push self.clock (self.clock + 1) self.stable old (omega arith) self.in_order (new_item c) (waits c));
       counted = let n = self.counted in omega arith;
+      timed = ap (last_came 0) (pushed c) ∙ last-pushed (λ (item : StoredItem). item.came) 0 self.items.items x ∙ sym (pends (self.clock + 1) self.stable c.push.new.items.items (more c)).1;
       sized = sized ∙ sym (log_size-push old self.clock (self.size + c.size.result) (new_mark c)) ∙ ap log_size (sym is);
       stable_sized = self.stable_sized ∙ ap log_size (sym (take-append-le self.stable old (new_item c ∷ []) self.in_order.within) ∙ ap (take self.stable) (sym is));
       fits = let f = c.requires.fits in let e = c.size.ensures in omega arith;
@@ -177,6 +185,6 @@ pub returns-clause-named : goal.returns-clause-named
 returns-clause-named c =
     let self = c.args.self.now in
     let at = (goal.at.returns-clause-named c).After-push in
-    let le : self.cursor ≤ length (kept_in self) = let w = self.cursor_within in omega (arith, kept-length self.blob_limit self.bytes.items 0 0 self.items.items) in
+    let le : self.cursor ≤ length (kept_in self) = let w = self.cursor_within in omega (arith, kept-length self.blob_limit self.bytes.items (last_in self) 0 0 self.items.items) in
     ap (λ (l : List (ℕ × ℕ)). moves_of_list l (self.appended + at.messages.result)) (waiting-push self.cursor (kept_in self) (new_item at) (new_kept at) (kept at) le)
     ∙ ap (λ n. moves_of_list (named_in (drop self.cursor (kept_in self)) ++ named_by (new_mark at)) (self.appended + n)) (at.messages.ensures.count self.blob_limit self.size self.bytes.items c.args.payload.now)

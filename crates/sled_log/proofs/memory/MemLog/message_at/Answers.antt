@@ -1,4 +1,4 @@
-use Rattle.sled_log.proofs.Names.{◌≡◌, ◌+◌, ◌-◌, ◌≤◌, ◌<◌, ℕ, true, Option, Some, None, List, length, take, get_or, refl, sym, ◌∙◌, ap, arith, slice_get, slice_get_within, slice_get_read, leb-true, MessageKind, Held, start_after, part, payload_of, blob_lies, lies}
+use Rattle.sled_log.proofs.Names.{◌≡◌, ◌+◌, ◌-◌, ◌≤◌, ◌<◌, ℕ, true, Option, Some, None, List, length, take, get_or, refl, sym, ◌∙◌, ap, arith, slice_get, slice_get_within, slice_get_read, leb-true, MessageKind, Held, last_in, start_after, part, payload_of, blob_lies, lies}
 use Rattle.sled_log.specs.declared.memory.item.LogItem.{LogItem}
 use Rattle.sled_log.specs.declared.memory.item.Mark.TheVariants.{Change}
 use Rattle.sled_log.proofs.Stored.{finds, within-get}
@@ -24,7 +24,7 @@ part-up start end bytes le = ap (λ n. part start n bytes) (omega (arith, le))
 pub returns-in_default-clause-told : goal.returns-in_default-clause-told
 returns-in_default-clause-told c = λ item change is mark.
     let self = c.args.self.now in
-    let f = finds self.blob_limit self.bytes.items self.items.items c.args.at item change is mark in
+    let f = finds self.blob_limit self.bytes.items (last_in self) self.items.items c.args.at item change is mark in
     let within = slice_get_within self.items.items c.args.at f.0 f.1 in
     let past = c.in_default.ensures.lookup.3 in
     let len = ap length c.deref.ensures.value in
@@ -34,7 +34,7 @@ pub returns-in_default-mark : goal.returns-in_default-mark
 returns-in_default-mark c = record {
   told = λ item change is mark.
       let self = c.args.self.now in
-      let f = finds self.blob_limit self.bytes.items self.items.items c.args.at item change is mark in
+      let f = finds self.blob_limit self.bytes.items (last_in self) self.items.items c.args.at item change is mark in
       let there = stands self.items.items c.deref.result.now c.args.at c.in-Some.item.now c.deref.ensures.value c.in-Some.ensures.lookup.3.0 c.in-Some.ensures.lookup.1 in
       c.in_default-mark.not-Change change.kind change.pid f.2 (ap (λ (x : LogItem). x.mark) (sym (is-it self.items.items c.args.at c.in-Some.item.now f.0 there f.1)) ∙ f.3);
   within = tt;
@@ -43,7 +43,7 @@ returns-in_default-mark c = record {
 pub returns-in-Some-blob-clause-told : goal.returns-in-Some-blob-clause-told
 returns-in-Some-blob-clause-told c = λ item change is mark.
     let self = c.args.self.now in
-    let f = finds self.blob_limit self.bytes.items self.items.items c.args.at item change is mark in
+    let f = finds self.blob_limit self.bytes.items (last_in self) self.items.items c.args.at item change is mark in
     let there = stands self.items.items c.deref.result.now c.args.at c.in-Some.item.now c.deref.ensures.value c.in-Some.ensures.lookup.3.0 c.in-Some.ensures.lookup.1 in
     let same : Change c.in-Change.kind c.in-Change.pid c.in-Change.blob ≡ Change change.kind change.pid f.2 = sym c.in-Change.is ∙ ap (λ (x : LogItem). x.mark) (sym (is-it self.items.items c.args.at c.in-Some.item.now f.0 there f.1)) ∙ f.3 in
     let blob : f.2 ≡ Some c.in-Some-blob.held = sym (same-blob c.in-Change.kind change.kind c.in-Change.pid change.pid c.in-Change.blob f.2 same) ∙ c.in-Some-blob.is in (
@@ -77,7 +77,7 @@ returns-clause-told c = λ item change is mark.
     let self = c.args.self.now in
     let at = c.args.at in
     let x : LogItem = c.in-Some.item.now in
-    let f = finds self.blob_limit self.bytes.items self.items.items at item change is mark in
+    let f = finds self.blob_limit self.bytes.items (last_in self) self.items.items at item change is mark in
     let there = stands self.items.items c.deref.result.now at x c.deref.ensures.value c.in-Some.ensures.lookup.3.0 c.in-Some.ensures.lookup.1 in
     let it : f.0 ≡ x = is-it self.items.items at x f.0 there f.1 in
     let same : Change c.in-Change.kind c.in-Change.pid c.in-Change.blob ≡ Change change.kind change.pid f.2 = sym c.in-Change.is ∙ ap (λ (x : LogItem). x.mark) (sym it) ∙ f.3 in

@@ -1,6 +1,6 @@
-use Rattle.sled_log.proofs.Names.{◌∙◌, Entry, IsReadAs}
+use Rattle.sled_log.proofs.Names.{[], ◌∙◌, Entry, IsReadAs, err_from_is_err_and}
 use Rattle.sled_log.proofs.KeptEntries.{each-is, one-is}
-use Rattle.sled_log.proofs.MemCalls.{called_same}
+use Rattle.sled_log.proofs.MemCalls.{called_memory, called_same}
 use Rattle.sled_log.proofs.memory.calls.MemLogLog.read.Goals as goal
 
 -- the log holds such a message, so it is found
@@ -20,3 +20,8 @@ returns-clause-found c = λ k d lt at.
     let is =
     each-is c.args.self.now c.count_read.new.self c.count_read.ensures.kept c.args.pid c.args.lsn c.args.pointer (λ (entry : Entry). IsReadAs entry c.in-Some.kind c.in-Some.payload.now) c.in-Some.ensures k d lt at in
     (is.0, c.in_ok-to_vec.ensures.items_if_clones_equal (λ x y h. h) ∙ is.1)
+
+pub returns-in_err-to_vec-clause-called : goal.returns-in_err-to_vec-clause-called
+returns-in_err-to_vec-clause-called c =
+    let p = err_from_is_err_and c.from_residual.result c.from_residual.ensures.1 in
+    rw (p.1, p.2) (called_memory c.args.self.now c.count_read.new.self c.count_read.ensures.clock c.count_read.ensures.kept _ _ [] c.count_read.ensures.reads)

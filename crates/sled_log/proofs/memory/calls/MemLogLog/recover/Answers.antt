@@ -1,4 +1,4 @@
-use Rattle.sled_log.proofs.Names.{◌+◌, ℕ, List, [], ◌∷◌, map, drop, get_or, refl, sym, ◌∙◌, ap, subst, drop_all, drop_more, err_from_is_err_and, PageState, event_of, kept_in, Chain, effect_of_entry, StoredItem}
+use Rattle.sled_log.proofs.Names.{◌+◌, ℕ, List, [], ◌∷◌, map, drop, get_or, refl, sym, ◌∙◌, ap, subst, drop_all, drop_more, err_from_is_err_and, PageState, event_of, kept_in, last_in, Chain, effect_of_entry, StoredItem}
 use Rattle.sled_log.specs.Inside.ShapeLaws.{AreChains, chains-are}
 use Rattle.sled_log.proofs.MemCalls.{called_memory}
 use Rattle.sled_log.proofs.Moments.{now_is}
@@ -23,22 +23,22 @@ loop-item-preserved c =
     let i = c.loop-item.item-index in
     let from : List StoredItem = c.deref-item-items.result.now in
     let x : StoredItem = get_or from i no_item in
-    let so_far : IsRecovering limit bytes items c.loop-item.place (x ∷ drop (i + 1) from) c.loop-item.pages.items =
-    subst (λ (rest : List StoredItem). IsRecovering limit bytes items c.loop-item.place rest c.loop-item.pages.items) (drop_more from i no_item c.loop-item-test.true) c.loop-item.invariant in
+    let so_far : IsRecovering limit bytes (last_in self) items c.loop-item.place (x ∷ drop (i + 1) from) c.loop-item.pages.items =
+    subst (λ (rest : List StoredItem). IsRecovering limit bytes (last_in self) items c.loop-item.place rest c.loop-item.pages.items) (drop_more from i no_item c.loop-item-test.true) c.loop-item.invariant in
     elim c.match-item.branch [
       | in-Change+in_ok-apply w ↦
-          subst (λ (l : List PageState). IsRecovering limit bytes items x.end (drop (i + 1) from) l) (sym (ap (λ p. p.items) w.pages-is))
-          (recovers-change limit bytes items so_far w.in-Change.kind w.in-Change.pid w.in-Change.blob w.in-Change.is w.said_at-said.result w.said_at-said.ensures w.in_ok-apply.ensures)
+          subst (λ (l : List PageState). IsRecovering limit bytes (last_in self) items x.end (drop (i + 1) from) l) (sym (ap (λ p. p.items) w.pages-is))
+          (recovers-change limit bytes (last_in self) items so_far w.in-Change.kind w.in-Change.pid w.in-Change.blob w.in-Change.is w.said_at-said.result w.said_at-said.ensures w.in_ok-apply.ensures)
       | in_default w ↦
-          subst (λ (l : List PageState). IsRecovering limit bytes items x.end (drop (i + 1) from) l) (sym (ap (λ p. p.items) w.pages-is))
-          (recovers-mark limit bytes items so_far w.in_default.not-Change)
+          subst (λ (l : List PageState). IsRecovering limit bytes (last_in self) items x.end (drop (i + 1) from) l) (sym (ap (λ p. p.items) w.pages-is))
+          (recovers-mark limit bytes (last_in self) items so_far w.in_default.not-Change)
     ]
 
 pub returns-clause-pages : goal.returns-clause-pages
 returns-clause-pages c =
     let self = c.args.self.now in
-    let all : IsRecovering self.blob_limit self.bytes.items self.items.items c.loop-item.place [] c.loop-item.pages.items =
-    subst (λ (rest : List StoredItem). IsRecovering self.blob_limit self.bytes.items self.items.items c.loop-item.place rest c.loop-item.pages.items) (drop_all c.loop-item.item-index c.deref-item-items.result.now c.loop-item-test.false) c.loop-item.invariant in
+    let all : IsRecovering self.blob_limit self.bytes.items (last_in self) self.items.items c.loop-item.place [] c.loop-item.pages.items =
+    subst (λ (rest : List StoredItem). IsRecovering self.blob_limit self.bytes.items (last_in self) self.items.items c.loop-item.place rest c.loop-item.pages.items) (drop_all c.loop-item.item-index c.deref-item-items.result.now c.loop-item-test.false) c.loop-item.invariant in
     subst (λ (l : List Chain). Shows l c.loop-item.pages.items) (all.leads ∙ sym (now_is self.clock self.stable (kept_in self) self.in_order)) all.shows
 
 pub returns-clause-sized : goal.returns-clause-sized
