@@ -12,9 +12,9 @@ abbrev pub no_item : StoredItem
 no_item = record { mark = stored.Change Corrupted 0 None; end = 0; payload_end = 0; came = 0 }
 
 -- one item more that a loop changes in its place
-pub over_more : (f : StoredItem → StoredItem) (old items : List StoredItem) (i : ℕ) → i < length old → i < length items → items ≡ map f (take i old) ++ drop i old
-    → set items i (f (get_or items i no_item)) ≡ map f (take (i + 1) old) ++ drop (i + 1) old
-over_more f old items i lt within is = let x : StoredItem = get_or items i no_item in map_over_more f old items i x lt is (get_or_default items i no_item x within)
+pub over_more : (f : StoredItem → StoredItem) (d : StoredItem) (old items : List StoredItem) (i : ℕ) → i < length old → i < length items → items ≡ map f (take i old) ++ drop i old
+    → set items i (f (get_or items i d)) ≡ map f (take (i + 1) old) ++ drop (i + 1) old
+over_more f d old items i lt within is = let x : StoredItem = get_or items i d in map_over_more f old items i x lt is (get_or_default items i d x within)
 
 -- ---- payloads lie in the buffer
 

@@ -23,13 +23,15 @@ mod cuts;
 mod finding;
 mod item;
 mod keeping;
+mod packed;
 mod pages;
 
 use crate::LogError;
 use cuts::is_fair_cut;
 use finding::behind;
-use item::{HEAD, Held, LogItem, Mark, payload_len};
+use item::{HEAD, Held, LogItem, payload_len};
 use keeping::{keep_first, push, room_for};
+use packed::PackedMark;
 use pages::{count_pages, said_at};
 use sled_base::growth::reserve;
 use sled_base::{DiskPtr, Lsn, MessageKind, PageId};
@@ -181,7 +183,7 @@ impl MemLog {
 
     // Adds an item with its payload. `batch` says whether a batch is open then, for whose closing mark it keeps room. So a mark
     // that closes one is never refused.
-    fn add(&mut self, mark: Mark, payload: &[u8], batch: bool) -> Result<(), LogError>
+    fn add(&mut self, mark: PackedMark, payload: &[u8], batch: bool) -> Result<(), LogError>
         requires fits { self.old.size + size_of_stored mark (length payload.now) < size_limit }
         requires lies { lies (vec_len self.old.bytes) mark ≡ true }
         requires held { is_held (marks_of (kept_in self.old) ++ mark_in self.old mark payload.now ∷ [])
@@ -203,11 +205,12 @@ impl MemLog {
     {
         reserve(&mut self.items, room_for(batch))?;
         reserve(&mut self.bytes, payload.len())?;
+        let told = mark.unpacked();
         self.clock += 1;
-        self.size += mark.size(payload);
+        self.size += told.size(payload);
         self.batch = batch;
-        self.pages = mark.pages_behind(self.pages);
-        self.appended += mark.messages();
+        self.pages = told.pages_behind(self.pages);
+        self.appended += told.messages();
         let item = LogItem {
             mark,
             end: self.size,
@@ -258,7 +261,8 @@ impl MemLog {
             return Err(LogError::Full);
         }
         let said = said_at(self.blob_limit, self.size, HEAD + len, blob);
-        self.add(Mark::Change { kind, pid, blob }, payload, self.batch)?;
+        let mark = PackedMark::change(self.alloc, kind, pid, blob)?;
+        self.add(mark, payload, self.batch)?;
         Ok(said)
     }
 

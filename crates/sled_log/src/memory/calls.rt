@@ -21,6 +21,7 @@ ghost use Rattle.sled_log.specs.declared.log.LogError.TheVariants.{Memory, Full}
 use super::MemLog;
 use super::finding::{before_change, behind};
 use super::item::Mark;
+use super::packed::PackedMark;
 use super::pages::{apply, said_at};
 use crate::{Log, LogError, PageState, Payload};
 use sled_base::{BlobPointer, DiskPtr, LogOffset, Lsn, MessageKind, PageId};
@@ -174,7 +175,7 @@ impl Log for MemLog {
         ensures past { Remembers self.old self.new }
         ensures unnamed { moves_of self.new ≡ moves_of self.old }
     {
-        self.add(Mark::Pin, &[], true)
+        self.add(PackedMark::pin(), &[], true)
     }
 
     // It is never refused.
@@ -186,7 +187,7 @@ impl Log for MemLog {
         ensures past { Remembers self.old self.new }
         ensures unnamed { moves_of self.new ≡ moves_of self.old }
     {
-        self.add(Mark::Seal, &[], false)
+        self.add(PackedMark::seal(), &[], false)
     }
 
     // It is never refused.
@@ -198,7 +199,7 @@ impl Log for MemLog {
         ensures past { Remembers self.old self.new }
         ensures unnamed { moves_of self.new ≡ moves_of self.old }
     {
-        self.add(Mark::Cancel, &[], false)
+        self.add(PackedMark::cancel(), &[], false)
     }
 
     // The message at the cursor, which moves on, where enough were appended; the count begins at 0 again then.
@@ -223,7 +224,7 @@ impl Log for MemLog {
         let Some(item) = self.items.get(at) else {
             return None;
         };
-        let Mark::Change { pid, .. } = item.mark else {
+        let Mark::Change { pid, .. } = item.mark.unpacked() else {
             return None;
         };
         if pid >= self.pages {
@@ -289,7 +290,7 @@ impl Log for MemLog {
         let mut pages = Vec::new(self.alloc);
         let mut place = 0;
         for item in &self.items {
-            if let Mark::Change { kind, pid, blob } = item.mark {
+            if let Mark::Change { kind, pid, blob } = item.mark.unpacked() {
                 let said = said_at(self.blob_limit, place, item.end - place, blob);
                 apply(self.alloc, &mut pages, pid, kind, said)?;
             }

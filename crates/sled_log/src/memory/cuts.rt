@@ -12,7 +12,7 @@ fn leaves_open(items: &[LogItem]) -> bool
 {
     let mut open = false;
     for item in items {
-        match &item.mark {
+        match item.mark.unpacked() {
             Mark::Change { .. } => {}
             Mark::Pin => open = true,
             Mark::Seal | Mark::Cancel => open = false,
@@ -26,7 +26,7 @@ fn cancels(items: &[LogItem]) -> bool
     ensures { result ≡ is_cancelled (map bare_event items.now) }
 {
     for item in items {
-        match &item.mark {
+        match item.mark.unpacked() {
             Mark::Change { .. } | Mark::Pin => {}
             Mark::Seal => return false,
             Mark::Cancel => return true,

@@ -46,7 +46,7 @@ pub(super) fn before_change(items: &[LogItem]) -> usize
 {
     let mut n = 0;
     for item in items {
-        match &item.mark {
+        match item.mark.unpacked() {
             Mark::Change { .. } => return n,
             Mark::Pin | Mark::Seal | Mark::Cancel => n += 1,
         }
@@ -80,7 +80,7 @@ impl MemLog {
         let Some(item) = self.items.get(at) else {
             return None;
         };
-        let Mark::Change { kind, blob, .. } = item.mark else {
+        let Mark::Change { kind, blob, .. } = item.mark.unpacked() else {
             return None;
         };
         if let Some(held) = blob {

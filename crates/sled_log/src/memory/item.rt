@@ -7,6 +7,7 @@ ghost use Rattle.sled_log.specs.MemLog.Items.{named_by};
 ghost use Rattle.sled_log.specs.MemLog.Stored.{kept_mark};
 ghost use Rattle.sled_log.specs.Limits.{size_limit};
 
+use super::packed::PackedMark;
 use sled_base::{BlobPointer, LogKind, MessageKind, PageId};
 
 // What every message takes beside its payload.
@@ -38,7 +39,7 @@ pub(super) enum Mark {
 // it came. When it became stable follows from when the others came.
 #[derive(Drop)]
 pub(super) struct LogItem {
-    pub(super) mark: Mark,
+    pub(super) mark: PackedMark,
     pub(super) end: u64,
     pub(super) payload_end: usize,
     pub(super) came: u64,

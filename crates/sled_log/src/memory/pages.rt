@@ -45,7 +45,7 @@ pub(super) fn count_pages(items: &[LogItem]) -> u64
 {
     let mut pages = 0;
     for item in items {
-        pages = item.mark.pages_behind(pages);
+        pages = item.mark.unpacked().pages_behind(pages);
     }
     pages
 }

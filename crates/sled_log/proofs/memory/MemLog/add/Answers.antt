@@ -1,4 +1,4 @@
-use Rattle.sled_log.proofs.Names.{named_by, named_in, lies, mark_in, bare_event, pages_after, ◌≡◌, ◌+◌, ◌≤◌, ◌<◌, ℕ, true, false, Option, None, List, [], ◌∷◌, ◌++◌, length, take, drop, map, refl, sym, ◌∙◌, ap, subst, arith, le-leb, and_from, eq-eqb, false≢true, length-append, take-append-le, drop-append-le, map-append, sum_by-append, err_from_is_err_and, is_open, open_after, event_of, event_of_mark, size_of_mark, is_waiting, log_size, stands_at, is_placed, are_placed, state_at, IsInOrder, open_after-append, IsFair-none, effect_of_entry, Adds, Mark, LogItem, came_by, kept_in, state_of, are_within, kept_from, kept_item, kept_items, last_came, last_in, StoredItem}
+use Rattle.sled_log.proofs.Names.{named_by, named_in, lies, mark_in, bare_event, bare_event_of, size_of_stored, pages_after, ◌≡◌, ◌+◌, ◌≤◌, ◌<◌, ℕ, true, false, Option, None, List, [], ◌∷◌, ◌++◌, length, take, drop, map, refl, sym, ◌∙◌, ap, subst, arith, le-leb, and_from, eq-eqb, false≢true, length-append, take-append-le, drop-append-le, map-append, sum_by-append, err_from_is_err_and, is_open, open_after, event_of, event_of_mark, size_of_mark, is_waiting, log_size, stands_at, is_placed, are_placed, state_at, IsInOrder, open_after-append, IsFair-none, effect_of_entry, Adds, Mark, LogItem, came_by, kept_in, state_of, are_within, kept_from, kept_item, kept_items, last_came, last_in, StoredItem}
 use Rattle.sled_log.proofs.MemCalls.{batch-says, called_ok, called_memory}
 use Rattle.sled_log.specs.Inside.Blobs.{marks_of, are_held}
 use Rattle.sled_log.specs.Moves.{Moves}
@@ -85,8 +85,14 @@ within_buffer : (c : After-push) → lies (length c.args.self.now.bytes.items) c
 within_buffer c = let ok = c.args.self.now.bytes.ok in subst (λ n. lies n c.args.mark ≡ true) (omega arith) c.requires.lies
 
 -- its log size
+stored_size : (c : After-push) → c.size.result ≡ size_of_stored c.args.mark (length c.args.payload.now)
+stored_size c = c.size.ensures ∙ ap (λ m. size_of_stored m (length c.args.payload.now)) c.unpacked-told.ensures
+
 size_is : (c : After-push) → c.size.result ≡ size_of_mark (mark_in c.args.self.now c.args.mark c.args.payload.now)
-size_is c = let self = c.args.self.now in c.size.ensures ∙ sym (size-stored self.blob_limit self.bytes.items self.size c.args.payload.now c.args.mark (within_buffer c))
+size_is c = let self = c.args.self.now in stored_size c ∙ sym (size-stored self.blob_limit self.bytes.items self.size c.args.payload.now c.args.mark (within_buffer c))
+
+pages_behind : (c : After-push) → c.pages_behind-self.result ≡ pages_after c.args.self.now.pages (bare_event_of c.args.mark ∷ [])
+pages_behind c = c.pages_behind-self.ensures ∙ ap (λ m. pages_after c.args.self.now.pages (bare_event_of m ∷ [])) c.unpacked-told.ensures
 
 -- what is stored then, and what is kept
 abbrev added_item : After-push → StoredItem
@@ -143,11 +149,11 @@ invariant_of-self-2 c =
       timed = ap (last_came 0) (pushed c) ∙ last-pushed (λ (item : StoredItem). item.came) 0 self.items.items x ∙ sym (pends (self.clock + 1) self.stable c.push.new.items.items (more c)).1;
       sized = sized ∙ sym (log_size-push old self.clock (self.size + c.size.result) (new_mark c)) ∙ ap log_size (sym is);
       stable_sized = self.stable_sized ∙ ap log_size (sym (take-append-le self.stable old (new_item c ∷ []) self.in_order.within) ∙ ap (take self.stable) (sym is));
-      fits = let f = c.requires.fits in let e = c.size.ensures in omega arith;
+      fits = let f = c.requires.fits in let e = stored_size c in omega arith;
       placed = ap (are_placed 0) is ∙ placed self.clock _ old (new_mark c) sized self.placed (stands-at self.blob_limit self.bytes.items c.args.payload.now c.args.mark (sym self.sized));
       holds_blobs = ap (are_held []) (ap marks_of is ∙ map-append (λ (item : LogItem). item.mark) old (new_item c ∷ [])) ∙ held-push [] (marks_of old) (new_mark c) self.holds_blobs c.requires.held;
-      paged = c.pages_behind-self.ensures ∙ pages-push self.items.items x c.push.new.items.items self.pages (pushed c) self.paged;
-      few_pages = let w = self.few_pages in let e = c.pages_behind-self.ensures in let one = one-page self.pages c.args.mark in omega arith;
+      paged = pages_behind c ∙ pages-push self.items.items x c.push.new.items.items self.pages (pushed c) self.paged;
+      few_pages = let w = self.few_pages in let e = pages_behind c in let one = one-page self.pages c.args.mark in omega arith;
       cursor_within = let w = self.cursor_within in omega arith;
       few_appended = let w = self.few_appended in let one = c.messages.ensures.few in omega arith;
       batch_is = c.requires.batch ∙ ap (λ b. open_after b (event_of_mark (new_mark c) ∷ [])) self.batch_is ∙ sym (open-push self.stable _ _ old (new_mark c) self.in_order.within) ∙ ap (λ (l : List LogItem). is_open (map event_of (drop self.stable l))) (sym is);
@@ -187,4 +193,4 @@ returns-clause-named c =
     let at = (goal.at.returns-clause-named c).After-push in
     let le : self.cursor ≤ length (kept_in self) = let w = self.cursor_within in omega (arith, kept-length self.blob_limit self.bytes.items (last_in self) 0 0 self.items.items) in
     ap (λ (l : List (ℕ × ℕ)). moves_of_list l (self.appended + at.messages.result)) (waiting-push self.cursor (kept_in self) (new_item at) (new_kept at) (kept at) le)
-    ∙ ap (λ n. moves_of_list (named_in (drop self.cursor (kept_in self)) ++ named_by (new_mark at)) (self.appended + n)) (at.messages.ensures.count self.blob_limit self.size self.bytes.items c.args.payload.now)
+    ∙ ap (λ n. moves_of_list (named_in (drop self.cursor (kept_in self)) ++ named_by (new_mark at)) (self.appended + n)) (at.messages.ensures.count self.blob_limit self.size self.bytes.items c.args.payload.now ∙ ap (λ m. length (named_by (mark_in self m c.args.payload.now))) at.unpacked-told.ensures)

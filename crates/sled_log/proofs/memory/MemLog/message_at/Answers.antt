@@ -30,13 +30,13 @@ returns-in_default-clause-told c = λ item change is mark.
     let len = ap length c.deref.ensures.value in
     omega (arith, within, past, len)
 
-pub returns-in_default-mark : goal.returns-in_default-mark
-returns-in_default-mark c = record {
+pub returns-in_default-unpacked : goal.returns-in_default-unpacked
+returns-in_default-unpacked c = record {
   told = λ item change is mark.
       let self = c.args.self.now in
       let f = finds self.blob_limit self.bytes.items (last_in self) self.items.items c.args.at item change is mark in
       let there = stands self.items.items c.deref.result.now c.args.at c.in-Some.item.now c.deref.ensures.value c.in-Some.ensures.lookup.3.0 c.in-Some.ensures.lookup.1 in
-      c.in_default-mark.not-Change change.kind change.pid f.2 (ap (λ (x : LogItem). x.mark) (sym (is-it self.items.items c.args.at c.in-Some.item.now f.0 there f.1)) ∙ f.3);
+      c.in_default-unpacked.not-Change change.kind change.pid f.2 (c.unpacked.ensures ∙ ap (λ (x : LogItem). x.mark) (sym (is-it self.items.items c.args.at c.in-Some.item.now f.0 there f.1)) ∙ f.3);
   within = tt;
 }
 
@@ -45,7 +45,7 @@ returns-in-Some-blob-clause-told c = λ item change is mark.
     let self = c.args.self.now in
     let f = finds self.blob_limit self.bytes.items (last_in self) self.items.items c.args.at item change is mark in
     let there = stands self.items.items c.deref.result.now c.args.at c.in-Some.item.now c.deref.ensures.value c.in-Some.ensures.lookup.3.0 c.in-Some.ensures.lookup.1 in
-    let same : Change c.in-Change.kind c.in-Change.pid c.in-Change.blob ≡ Change change.kind change.pid f.2 = sym c.in-Change.is ∙ ap (λ (x : LogItem). x.mark) (sym (is-it self.items.items c.args.at c.in-Some.item.now f.0 there f.1)) ∙ f.3 in
+    let same : Change c.in-Change.kind c.in-Change.pid c.in-Change.blob ≡ Change change.kind change.pid f.2 = sym c.in-Change.is ∙ c.unpacked.ensures ∙ ap (λ (x : LogItem). x.mark) (sym (is-it self.items.items c.args.at c.in-Some.item.now f.0 there f.1)) ∙ f.3 in
     let blob : f.2 ≡ Some c.in-Some-blob.held = sym (same-blob c.in-Change.kind change.kind c.in-Change.pid change.pid c.in-Change.blob f.2 same) ∙ c.in-Some-blob.is in (
       same-kind c.in-Change.kind change.kind c.in-Change.pid change.pid c.in-Change.blob f.2 same,
       sym (f.4 ∙ ap (payload_of self.bytes.items (part (start_after 0 (take c.args.at self.items.items)) f.0.payload_end self.bytes.items)) blob),
@@ -58,7 +58,7 @@ returns-in-Some-blob-clause-within c =
     let held : Held = c.in-Some-blob.held in
     let there = stands self.items.items c.deref.result.now c.args.at x c.deref.ensures.value c.in-Some.ensures.lookup.3.0 c.in-Some.ensures.lookup.1 in
     let within = within-get 0 (length self.bytes.items) c.args.at self.items.items x self.within there in
-    let lies : blob_lies x.payload_end (Some held) ≡ true = ap (blob_lies x.payload_end) (sym c.in-Some-blob.is) ∙ ap (lies x.payload_end) (sym c.in-Change.is) ∙ within.2 in
+    let lies : blob_lies x.payload_end (Some held) ≡ true = ap (blob_lies x.payload_end) (sym c.in-Some-blob.is) ∙ ap (lies x.payload_end) (sym c.in-Change.is ∙ c.unpacked.ensures) ∙ within.2 in
     let ok = self.bytes.ok in
     omega (arith, leb-true (held.start + held.len) x.payload_end lies, within.1)
 
@@ -80,7 +80,7 @@ returns-clause-told c = λ item change is mark.
     let f = finds self.blob_limit self.bytes.items (last_in self) self.items.items at item change is mark in
     let there = stands self.items.items c.deref.result.now at x c.deref.ensures.value c.in-Some.ensures.lookup.3.0 c.in-Some.ensures.lookup.1 in
     let it : f.0 ≡ x = is-it self.items.items at x f.0 there f.1 in
-    let same : Change c.in-Change.kind c.in-Change.pid c.in-Change.blob ≡ Change change.kind change.pid f.2 = sym c.in-Change.is ∙ ap (λ (x : LogItem). x.mark) (sym it) ∙ f.3 in
+    let same : Change c.in-Change.kind c.in-Change.pid c.in-Change.blob ≡ Change change.kind change.pid f.2 = sym c.in-Change.is ∙ c.unpacked.ensures ∙ ap (λ (x : LogItem). x.mark) (sym it) ∙ f.3 in
     let none : f.2 ≡ None = sym (same-blob c.in-Change.kind change.kind c.in-Change.pid change.pid c.in-Change.blob f.2 same) ∙ c.in_default-blob.is in
     let within = within-get 0 (length self.bytes.items) at self.items.items x self.within there in
     let start : c.behind-start.result.1 ≡ start_after 0 (take at self.items.items) = c.behind-start.ensures.start ∙ ap (λ (l : List LogItem). start_after 0 (take at l)) c.deref-2.ensures.value in

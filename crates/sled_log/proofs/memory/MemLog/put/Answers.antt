@@ -1,4 +1,4 @@
-use Rattle.sled_log.proofs.Names.{◌≡◌, ◌+◌, ℕ, pos, List, [], ◌∷◌, ◌++◌, length, refl, sym, ◌∙◌, ap, subst, arith, true, Adds, Change, Full, state_of, kept_in, placed_entry, effect_of_entry, payload_of, pointer_of, put_message, head_size, blob_lies, err_from_is_err_and}
+use Rattle.sled_log.proofs.Names.{◌≡◌, ◌+◌, ℕ, pos, List, [], ◌∷◌, ◌++◌, length, refl, sym, ◌∙◌, ap, subst, arith, true, Adds, Change, Full, state_of, kept_in, placed_entry, effect_of_entry, event_of_mark, mark_in, payload_of, pointer_of, put_message, head_size, blob_lies, err_from_is_err_and}
 use Rattle.sled_log.specs.Inside.Blobs.{marks_of}
 use Rattle.sled_log.proofs.Blobs.{held-put}
 use Rattle.sled_log.proofs.MemCalls.{called_ok}
@@ -9,7 +9,7 @@ use Rattle.sled_log.proofs.memory.MemLog.put.Goals.{After-said_at-said}
 use Rattle.sled_log.proofs.memory.MemLog.put.Goals as goal
 
 pub add-requires-clause-held : goal.add-requires-clause-held
-add-requires-clause-held c = let self = c.args.self.now in held-put (marks_of (kept_in self)) self.bytes.items self.blob_limit self.size c.args.kind c.args.pid c.args.payload.now c.args.blob c.requires.held
+add-requires-clause-held c = let self = c.args.self.now in rw c.in_ok-mark.ensures (held-put (marks_of (kept_in self)) self.bytes.items self.blob_limit self.size c.args.kind c.args.pid c.args.payload.now c.args.blob c.requires.held)
 
 -- how long its payload is
 long : (c : After-said_at-said) → length (payload_of c.args.self.now.bytes.items c.args.payload.now c.args.blob) ≡ c.payload_len-len.result
@@ -22,8 +22,8 @@ pub returns-in_err-add-clause-full : goal.returns-in_err-add-clause-full
 returns-in_err-add-clause-full c =
     let long = long (goal.at.returns-in_err-add-clause-full c).After-said_at-said in
     let sized = c.args.self.now.sized in
-    let p = err_from_is_err_and c.from_residual.result c.from_residual.ensures.1 in
-    (λ is. absurd (let none : IsErrOf c.from_residual.result Full → ⊥ = rw (p.1, p.2, c.in_err-add.ensures.only) (λ same. cc) in none is), λ over. absurd (omega arith))
+    let p = err_from_is_err_and c.from_residual-in_err-add.result c.from_residual-in_err-add.ensures.1 in
+    (λ is. absurd (let none : IsErrOf c.from_residual-in_err-add.result Full → ⊥ = rw (p.1, p.2, c.in_err-add.ensures.only) (λ same. cc) in none is), λ over. absurd (omega arith))
 
 -- its place, with the payload of the blob where it names one
 place : (c : After-said_at-said) → c.said_at-said.result ≡ (pos c.args.self.now.size, pointer_of c.args.self.now.blob_limit c.args.self.now.size c.args.payload.now c.args.blob, head_size + length (payload_of c.args.self.now.bytes.items c.args.payload.now c.args.blob))
@@ -43,7 +43,7 @@ pub returns-clause-called : goal.returns-clause-called
 returns-clause-called c =
     let self = c.args.self.now in
     called_ok self _ _ _ _ _ refl
-    (subst (λ l. Adds effect_of_entry (state_of self) l (state_of c.add.new.self)) (ap (λ s. Change c.args.pid (placed_entry (put_message self c.args.kind c.args.blob c.args.payload.now) s) ∷ []) (sym (place (goal.at.returns-clause-called c).After-said_at-said))) (c.in_ok-add.ensures.called.added tt))
+    (subst (λ l. Adds effect_of_entry (state_of self) l (state_of c.add.new.self)) (ap (λ s. Change c.args.pid (placed_entry (put_message self c.args.kind c.args.blob c.args.payload.now) s) ∷ []) (sym (place (goal.at.returns-clause-called c).After-said_at-said))) (subst (λ m. Adds effect_of_entry (state_of self) (event_of_mark (mark_in self m c.args.payload.now) ∷ []) (state_of c.add.new.self)) c.in_ok-mark.ensures (c.in_ok-add.ensures.called.added tt)))
     c.add.ensures.past c.add.ensures.called.reads
 
 pub returns-clause-moves : goal.returns-clause-moves
@@ -53,7 +53,7 @@ returns-clause-moves c =
     record {
       settings = moves.settings;
       stable = moves.stable;
-      ok = moves.ok ∙ ap (λ s. (state_of self).pending ++ Change c.args.pid (placed_entry (put_message self c.args.kind c.args.blob c.args.payload.now) s) ∷ []) (sym (place (goal.at.returns-clause-moves c).After-said_at-said));
+      ok = moves.ok ∙ ap (λ m. (state_of self).pending ++ event_of_mark (mark_in self m c.args.payload.now) ∷ []) c.in_ok-mark.ensures ∙ ap (λ s. (state_of self).pending ++ Change c.args.pid (placed_entry (put_message self c.args.kind c.args.blob c.args.payload.now) s) ∷ []) (sym (place (goal.at.returns-clause-moves c).After-said_at-said));
       err = tt;
     }
 

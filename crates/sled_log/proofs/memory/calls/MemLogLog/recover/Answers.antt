@@ -5,7 +5,6 @@ use Rattle.sled_log.proofs.Moments.{now_is}
 use Rattle.sled_log.proofs.PageStates.{Shows}
 use Rattle.sled_log.proofs.Recovering.{IsRecovering, recovers-mark, recovers-change}
 use Rattle.sled_log.proofs.Sizes.{chains-sized}
-use Rattle.sled_log.proofs.Stored.{no_item}
 use Rattle.sled_log.proofs.memory.calls.MemLogLog.recover.Goals.{in-Change+in_ok-apply, in_default}
 use Rattle.sled_log.proofs.memory.calls.MemLogLog.recover.Goals as goal
 
@@ -22,16 +21,16 @@ loop-item-preserved c =
     let items : List StoredItem = self.items.items in
     let i = c.loop-item.item-index in
     let from : List StoredItem = c.deref-item-items.result.now in
-    let x : StoredItem = get_or from i no_item in
+    let x : StoredItem = c.item-item.result in
     let so_far : IsRecovering limit bytes (last_in self) items c.loop-item.place (x ∷ drop (i + 1) from) c.loop-item.pages.items =
-    subst (λ (rest : List StoredItem). IsRecovering limit bytes (last_in self) items c.loop-item.place rest c.loop-item.pages.items) (drop_more from i no_item c.loop-item-test.true) c.loop-item.invariant in
-    elim c.match-item.branch [
+    subst (λ (rest : List StoredItem). IsRecovering limit bytes (last_in self) items c.loop-item.place rest c.loop-item.pages.items) (drop_more from i x c.loop-item-test.true ∙ ap (λ (y : StoredItem). y ∷ drop (i + 1) from) (sym c.item-item.is)) c.loop-item.invariant in
+    elim c.match-unpacked.branch [
       | in-Change+in_ok-apply w ↦
           subst (λ (l : List PageState). IsRecovering limit bytes (last_in self) items x.end (drop (i + 1) from) l) (sym (ap (λ p. p.items) w.pages-is))
-          (recovers-change limit bytes (last_in self) items so_far w.in-Change.kind w.in-Change.pid w.in-Change.blob w.in-Change.is w.said_at-said.result w.said_at-said.ensures w.in_ok-apply.ensures)
+          (recovers-change limit bytes (last_in self) items so_far w.in-Change.kind w.in-Change.pid w.in-Change.blob (sym c.unpacked.ensures ∙ w.in-Change.is) w.said_at-said.result w.said_at-said.ensures w.in_ok-apply.ensures)
       | in_default w ↦
           subst (λ (l : List PageState). IsRecovering limit bytes (last_in self) items x.end (drop (i + 1) from) l) (sym (ap (λ p. p.items) w.pages-is))
-          (recovers-mark limit bytes (last_in self) items so_far w.in_default.not-Change)
+          (recovers-mark limit bytes (last_in self) items so_far (λ kind pid blob is. w.in_default.not-Change kind pid blob (c.unpacked.ensures ∙ is)))
     ]
 
 pub returns-clause-pages : goal.returns-clause-pages

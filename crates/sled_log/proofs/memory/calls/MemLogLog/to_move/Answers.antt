@@ -25,13 +25,13 @@ returns-in_default-clause-named c =
     (due-is _ self.clean_every (moves_of self) (λ z. let some = c.if-self-eq0.false in omega arith) (let enough = c.if-self.false in omega arith)
     ∙ ap (first_of _) (names-none self c.before_change.result at count refl none))
 
-pub returns-in_default-mark : goal.returns-in_default-mark
-returns-in_default-mark c =
+pub returns-in_default-unpacked : goal.returns-in_default-unpacked
+returns-in_default-unpacked c =
     let self = c.args.self.now in
     let at : ℕ = self.cursor + c.before_change.result in
     let count = counted self.items.items c.deref.result.now self.cursor (length c.deref.result.now) c.before_change.result c.deref.ensures.value refl c.before_change.ensures.count in
     let lookup = c.in-Some.ensures.lookup in
-    absurd (names-message self c.before_change.result at count refl c.in-Some.item.now (stands self.items.items c.deref-2.result.now at c.in-Some.item.now c.deref-2.ensures.value lookup.3.0 lookup.1) c.in_default-mark.not-Change)
+    absurd (names-message self c.before_change.result at count refl c.in-Some.item.now (stands self.items.items c.deref-2.result.now at c.in-Some.item.now c.deref-2.ensures.value lookup.3.0 lookup.1) (λ kind pid blob is. c.in_default-unpacked.not-Change kind pid blob (c.unpacked.ensures ∙ is)))
 
 pub returns-then-pid-self-clause-named : goal.returns-then-pid-self-clause-named
 returns-then-pid-self-clause-named c =
@@ -44,7 +44,7 @@ returns-then-pid-self-clause-named c =
     let pages = pages-now self in
     sym
     (due-is _ self.clean_every (moves_of self) (λ z. let some = c.if-self-eq0.false in omega arith) (let enough = c.if-self.false in omega arith)
-    ∙ ap (first_of _) (names-first self c.before_change.result at count refl c.in-Some.item.now c.in-Change.kind c.in-Change.pid c.in-Change.blob there c.in-Change.is)
+    ∙ ap (first_of _) (names-first self c.before_change.result at count refl c.in-Some.item.now c.in-Change.kind c.in-Change.pid c.in-Change.blob there (sym c.unpacked.ensures ∙ c.in-Change.is))
     ∙ first-gone _ c.in-Change.pid (place_after 0 (take at self.items.items)) (named_in (drop (at + 1) (kept_in self))) (omega (arith, gone, pages)))
 
 pub returns-clause-named : goal.returns-clause-named
@@ -59,7 +59,7 @@ returns-clause-named c =
     let place : c.behind-place.result.0 ≡ place_after 0 (take at self.items.items) = c.behind-place.ensures.place ∙ ap (λ (l : List LogItem). place_after 0 (take at l)) c.deref-3.ensures.value in
     sym
     (due-is _ self.clean_every (moves_of self) (λ z. let some = c.if-self-eq0.false in omega arith) (let enough = c.if-self.false in omega arith)
-    ∙ ap (first_of _) (names-first self c.before_change.result at count refl c.in-Some.item.now c.in-Change.kind c.in-Change.pid c.in-Change.blob there c.in-Change.is)
+    ∙ ap (first_of _) (names-first self c.before_change.result at count refl c.in-Some.item.now c.in-Change.kind c.in-Change.pid c.in-Change.blob there (sym c.unpacked.ensures ∙ c.in-Change.is))
     ∙ first-there _ c.in-Change.pid (place_after 0 (take at self.items.items)) (named_in (drop (at + 1) (kept_in self))) (omega (arith, held, pages))
     ∙ ap (λ (n : ℕ). Some (c.in-Change.pid, n)) (sym place))
 
@@ -72,7 +72,7 @@ returns-clause-moves_on c =
     let there = stands self.items.items c.deref-2.result.now at c.in-Some.item.now c.deref-2.ensures.value lookup.3.0 lookup.1 in
     let place : c.behind-place.result.0 ≡ place_after 0 (take at self.items.items) = c.behind-place.ensures.place ∙ ap (λ (l : List LogItem). place_after 0 (take at l)) c.deref-3.ensures.value in
     record {
-      waiting = names-first self c.before_change.result at count refl c.in-Some.item.now c.in-Change.kind c.in-Change.pid c.in-Change.blob there c.in-Change.is
+      waiting = names-first self c.before_change.result at count refl c.in-Some.item.now c.in-Change.kind c.in-Change.pid c.in-Change.blob there (sym c.unpacked.ensures ∙ c.in-Change.is)
           ∙ ap (λ (n : ℕ). (c.in-Change.pid, n) ∷ named_in (drop (at + 1) (kept_in self))) (sym place);
       appended = refl;
     }
