@@ -1,9 +1,8 @@
 -- What is written within the limits is short enough for a size of 64 bits.
-use Rattle.std.proofs.Common.{ℕ, ◌*◌, ◌<◌, ◌≤◌, ◌^◌, List, [], ◌∷◌, ◌++◌, length, arith}
+use Rattle.std.proofs.Common.{ℕ, ◌+◌, ◌*◌, ◌<◌, ◌≤◌, ◌^◌, List, [], ◌∷◌, ◌++◌, length, arith}
 use Rattle.std.specs.Prelude.{nat_le, nat_lt}
 use Rattle.std.specs.List.{flat_map, AllByRecursion}
 use Rattle.std.proofs.Math.Nat.{suc-mul}
-use Rattle.std.proofs.lemmas.Bool.Decides.{nat_tests}
 use Rattle.std.proofs.lemmas.List.{length-append, length-map}
 use Rattle.sled_base.specs.Order.{Bytes}
 use Rattle.sled_node.specs.declared.node.data.Data.{Data}
@@ -34,15 +33,9 @@ number_size n =
     chosen P (nat_le n 2287) _ _ (λ _. omega arith) (λ _.
     chosen P (nat_le n 67823) _ _ (λ _. omega arith) (λ _. omega (arith, length-low_bytes (byte_count n) n, few_bytes n))))
 
-pub small_number_size : (n : ℕ) → n ≤ 240 → length (written_u64 n) ≤ 1
-small_number_size n small =
-    let P = λ (s : List ℕ). length s ≤ 1 in
-    chosen P (nat_le n 240) _ _ (λ _. omega arith) (λ large. absurd (grind (arith, nat_tests)))
-
--- a short name and its page
-pub short_root_size : (name : Bytes) (root : ℕ) → length name ≤ 22 → length (written_root (name, root)) ≤ 32
-short_root_size name root short =
-    omega (arith, short, small_number_size (length name) (omega arith), number_size root, length-append (written_u64 (length name)) name, length-append (written_bytes name) (written_u64 root))
+-- a name and its page
+pub pair_size : (name : Bytes) (root : ℕ) → length (written_root (name, root)) ≤ length name + 18
+pair_size name root = omega (arith, number_size (length name), number_size root, length-append (written_u64 (length name)) name, length-append (written_bytes name) (written_u64 root))
 
 pub string_size : (bytes : Bytes) → IsWithinLimit bytes → length (written_bytes bytes) ≤ 2147483656
 string_size bytes short = omega (arith, short, number_size (length bytes), length-append (written_u64 (length bytes)) bytes)

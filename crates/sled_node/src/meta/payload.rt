@@ -104,7 +104,7 @@ fn write_roots(roots: &BTreeMap<Vec<u8>, PageId>, out: &mut [u8]) -> usize
 }
 
 // Writes a name and its page from a place on, and answers where they end.
-fn write_root(name: &[u8], root: PageId, out: &mut [u8], start: usize) -> usize
+pub(super) fn write_root(name: &[u8], root: PageId, out: &mut [u8], start: usize) -> usize
     requires room { start + length (written_root (name.now, root)) ≤ length out.old }
     ensures size { result ≡ start + length (written_root (name.now, root)) }
     ensures bytes { out.new ≡ (take start out.old ++ written_root (name.now, root))
@@ -114,7 +114,7 @@ fn write_root(name: &[u8], root: PageId, out: &mut [u8], start: usize) -> usize
 }
 
 // Writes a name and its page at the front.
-pub(super) fn write_pair(name: &[u8], root: PageId, out: &mut [u8]) -> usize
+fn write_pair(name: &[u8], root: PageId, out: &mut [u8]) -> usize
     requires room { length (written_root (name.now, root)) ≤ length out.old }
     ensures size { result ≡ length (written_root (name.now, root)) }
     ensures bytes { out.new ≡ written_root (name.now, root)

@@ -1,12 +1,10 @@
 //! Payloads of a root map, whole and without a name.
 
-ghost use Rattle.std.specs.Prelude.{◌≡◌, ◌≤◌, ◌++◌, length, IfOk, OnOk};
-ghost use Rattle.sled_base.specs.Payloads.Numbers.{written_u64};
+ghost use Rattle.std.specs.Prelude.{◌≡◌, ◌≤◌, ◌+◌, ◌++◌, length, take, vec_len, IfOk, OnOk};
 ghost use Rattle.sled_node.specs.Meta.{named, named_pages, without_root, IsRootMap};
 ghost use Rattle.sled_node.specs.Payloads.Roots.{written_root, written_roots};
 
-use super::payload::write_pair;
-use crate::serialization::Serialize;
+use super::payload::write_root;
 use sled_base::PageId;
 use std::alloc::{AllocError, Global};
 use std::collections::BTreeMap;
@@ -16,22 +14,20 @@ use std::ops::Bound;
 // How many bytes a name with its page is first given room for.
 const ROOM: usize = 16;
 
-// A name of at most so many bytes is short.
-const SHORT: usize = 22;
+// How many bytes are there before they are written, at a time.
+const CHUNK: usize = 512;
 
-// How many bytes a short name and its page take at most: one for its length, its own, and nine.
-const SHORT_ROOM: usize = 32;
-
-// The greatest number that is written in one byte.
-const ONE_BYTE: u64 = 240;
+// How many bytes a name and its page take at most, beside the name's own: nine for its length, and nine.
+const AROUND: usize = 18;
 
 // How the map is written.
 pub fn serialize(alloc: Global, roots: &BTreeMap<Vec<u8>, PageId>) -> Result<Vec<u8>, AllocError>
     requires { IsRootMap (named_pages roots.now) }
     ensures { IfOk result (λ bytes. bytes.items ≡ written_roots (named_pages roots.now)) }
 {
-    let mut bytes = Vec::with_capacity(alloc, roots.len() * ROOM)?;
-    push_roots(&mut bytes, roots.range(..))?;
+    let mut bytes = Vec::with_capacity(alloc, roots.len() * ROOM + CHUNK)?;
+    let end = write_range(&mut bytes, 0, roots.range(..))?;
+    bytes.truncate(end);
     Ok(bytes)
 }
 
@@ -46,70 +42,69 @@ pub fn serialize_without(
         ≡ written_roots (without_root name.now (named_pages roots.now))) }
 {
     let name = Vec::from_slice(alloc, name)?;
-    let mut bytes = Vec::with_capacity(alloc, roots.len() * ROOM)?;
-    push_roots(&mut bytes, roots.range(..&name))?;
-    push_roots(
-        &mut bytes,
-        roots.range((Bound::Excluded(&name), Bound::Unbounded)),
-    )?;
+    let mut bytes = Vec::with_capacity(alloc, roots.len() * ROOM + CHUNK)?;
+    let below = write_range(&mut bytes, 0, roots.range(..&name))?;
+    let above = roots.range((Bound::Excluded(&name), Bound::Unbounded));
+    let end = write_range(&mut bytes, below, above)?;
+    bytes.truncate(end);
     Ok(bytes)
 }
 
-// Writes names with their pages behind the bytes.
-fn push_roots(bytes: &mut Vec<u8>, roots: Range<'_, Vec<u8>, PageId>) -> Result<(), AllocError>
-    ensures { OnOk result
-        (bytes.new.items ≡ bytes.old.items ++ written_roots (named roots.entry)) }
+// Writes names with their pages from a place on, and answers where they end. The bytes become as many as that takes, and more.
+fn write_range(
+    bytes: &mut Vec<u8>,
+    start: usize,
+    roots: Range<'_, Vec<u8>, PageId>,
+) -> Result<usize, AllocError>
+    requires { start ≤ vec_len bytes.old }
+    ensures written { IfOk result (λ end. take end bytes.new.items
+        ≡ take start bytes.old.items ++ written_roots (named roots.entry)) }
+    ensures within { IfOk result (λ end. end ≤ vec_len bytes.new) }
 {
+    let mut end = start;
     for (name, root) in roots {
-        push_root(bytes, name, *root)?;
+        end = write_next(bytes, end, name, *root)?;
     }
-    Ok(())
+    Ok(end)
 }
 
-// Writes a name with its page behind the bytes.
-fn push_root(bytes: &mut Vec<u8>, name: &[u8], root: PageId) -> Result<(), AllocError>
-    ensures { OnOk result (bytes.new.items ≡ bytes.old.items ++ written_root (name.now, root)) }
-{
-    if name.len() <= SHORT {
-        return push_short_root(bytes, name, root);
-    }
-    push_long_root(bytes, name, root)
-}
-
-// Writes a short name with its page behind the bytes. All the room that they may take is copied and then cut, since a copy of a known
-// length is no call.
+// Writes a name with its page from a place on, and answers where they end.
 #[inline(always)]
-fn push_short_root(bytes: &mut Vec<u8>, name: &[u8], root: PageId) -> Result<(), AllocError>
-    requires { length name.now ≤ 22 }
-    ensures { OnOk result (bytes.new.items ≡ bytes.old.items ++ written_root (name.now, root)) }
+fn write_next(
+    bytes: &mut Vec<u8>,
+    start: usize,
+    name: &[u8],
+    root: PageId,
+) -> Result<usize, AllocError>
+    requires { start ≤ vec_len bytes.old }
+    ensures written { IfOk result (λ end. take end bytes.new.items
+        ≡ take start bytes.old.items ++ written_root (name.now, root)) }
+    ensures within { IfOk result (λ end. end ≤ vec_len bytes.new) }
 {
-    let mut written = [0; SHORT_ROOM];
-    let end = bytes.len() + write_pair(name, root, &mut written);
-    bytes.extend_from_slice(&written)?;
-    bytes.truncate(end);
-    Ok(())
+    make_room(bytes, start, name.len() + AROUND)?;
+    Ok(write_root(name, root, bytes, start))
 }
 
-fn push_long_root(bytes: &mut Vec<u8>, name: &[u8], root: PageId) -> Result<(), AllocError>
-    ensures { OnOk result (bytes.new.items ≡ bytes.old.items ++ written_root (name.now, root)) }
-{
-    push_number(bytes, name.len() as u64)?;
-    bytes.extend_from_slice(name)?;
-    push_number(bytes, root)
-}
-
-// Writes a number behind the bytes. All the room that one may take is copied and then cut, since a copy of a known length is no call.
+// Makes room for so many bytes from a place on.
 #[inline(always)]
-fn push_number(bytes: &mut Vec<u8>, number: u64) -> Result<(), AllocError>
-    ensures { OnOk result (bytes.new.items ≡ bytes.old.items ++ written_u64 number) }
+fn make_room(bytes: &mut Vec<u8>, start: usize, room: usize) -> Result<(), AllocError>
+    requires { start ≤ vec_len bytes.old }
+    ensures front { OnOk result
+        (take (length bytes.old.items) bytes.new.items ≡ bytes.old.items) }
+    ensures room { OnOk result (start + room ≤ vec_len bytes.new) }
 {
-    if number <= ONE_BYTE {
-        bytes.push(number as u8)?;
-        return Ok(());
+    if bytes.len() - start < room {
+        return lengthen(bytes, room);
     }
-    let mut written = [0; 9];
-    let end = bytes.len() + number.serialize_into(&mut written);
-    bytes.extend_from_slice(&written)?;
-    bytes.truncate(end);
     Ok(())
+}
+
+// Makes the bytes so many more at least.
+fn lengthen(bytes: &mut Vec<u8>, more: usize) -> Result<(), AllocError>
+    ensures front { OnOk result
+        (take (length bytes.old.items) bytes.new.items ≡ bytes.old.items) }
+    ensures longer { OnOk result (vec_len bytes.old + more ≤ vec_len bytes.new) }
+{
+    let len = bytes.len();
+    bytes.resize(len.saturating_add(more.max(CHUNK)), 0)
 }

@@ -13,9 +13,8 @@ returns c =
     let entries = c.args.roots.now.entries in
     let roots = named entries in
     let lows = named c.range.result in
-    let highs = named c.range-2.result in
+    let highs = named c.range-above.result in
     let below : lows ≡ pairs_below c.args.name.now roots = ap named (c.range.ensures.between tt) ∙ below_between name entries ∙ ap (λ k. pairs_below k roots) c.in_ok-name.ensures.items in
-    let above : highs ≡ pairs_above c.args.name.now roots = ap named (c.range-2.ensures.between tt) ∙ above_between name entries ∙ ap (λ k. pairs_above k roots) c.in_ok-name.ensures.items in
-    let put = c.in_ok-push_roots.ensures ∙ ap (λ front. front ++ written_roots lows) c.in_ok-bytes.ensures.items in
-    c.in_ok-push_roots-2.ensures ∙ ap (λ front. front ++ written_roots highs) put ∙ sym (flat_map-append written_root lows highs)
+    let above : highs ≡ pairs_above c.args.name.now roots = ap named (c.range-above.ensures.between tt) ∙ above_between name entries ∙ ap (λ k. pairs_above k roots) c.in_ok-name.ensures.items in
+    c.truncate.ensures.items ∙ c.in_ok-end.ensures.written ∙ ap (λ front. front ++ written_roots highs) c.in_ok-below.ensures.written ∙ sym (flat_map-append written_root lows highs)
     ∙ ap (λ front. written_roots (front ++ highs)) below ∙ ap (λ back. written_roots (pairs_below c.args.name.now roots ++ back)) above
