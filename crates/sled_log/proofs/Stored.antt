@@ -1,15 +1,11 @@
 -- What the log in memory keeps, by its items and their buffer.
-use Rattle.sled_log.proofs.Names.{◌≡◌, ◌≤◌, ◌<◌, ◌+◌, ◌-◌, ℕ, Bool, zero, suc, true, false, cond, ◌==◌, nat_le, nat_lt, Option, Some, None, List, [], ◌∷◌, ◌++◌, length, take, drop, map, set, get_or, refl, sym, ◌∙◌, ap, subst, arith, pos, slice_get, IsNonDecreasingBy, and_parts, and_from, leb-true, le-leb, eqb-true, eq-eqb, length-drop, length-take-le, take-append-le, drop-append-le, take-append-drop, take_all, drop-map, get_or_default, drop-append_seam, sum_by-cons, offset_of, MessageKind, Corrupted, StoredItem, StoredMark, Event, seen_event, event_of_mark, event_of, size_of_mark, log_size, stands_at, are_placed, item_after_restart, KeptChange, LogItem, Entry, part, last_settled, settled_at, settled_behind, kept_mark, kept_item, kept_from, head_size, Mark, Held, payload_of, pointer_of, lies, blob_lies, is_within, size_of_stored, payload_size, are_within, last_of, place_after, start_after, bare_event_of, bare_event, came_by, last_came, restarts}
+use Rattle.sled_log.proofs.Names.{◌≡◌, ◌≤◌, ◌<◌, ◌+◌, ◌-◌, ℕ, Bool, zero, suc, true, false, cond, ◌==◌, nat_le, nat_lt, Option, Some, None, List, [], ◌∷◌, ◌++◌, length, take, drop, map, set, get_or, refl, sym, ◌∙◌, ap, subst, arith, pos, slice_get, IsNonDecreasingBy, and_parts, and_from, leb-true, le-leb, eqb-true, eq-eqb, length-drop, length-take-le, take-append-le, drop-append-le, take-append-drop, take_all, drop-map, get_or_default, drop-append_seam, sum_by-cons, offset_of, MessageKind, StoredItem, StoredMark, Event, seen_event, event_of_mark, event_of, size_of_mark, log_size, stands_at, are_placed, item_after_restart, KeptChange, LogItem, Entry, part, last_settled, settled_at, settled_behind, kept_mark, kept_item, kept_from, head_size, Mark, Held, payload_of, pointer_of, lies, blob_lies, is_within, size_of_stored, payload_size, are_within, last_of, place_after, start_after, bare_event_of, bare_event, came_by, last_came, restarts}
 use Rattle.std.proofs.lemmas.Bool.{false_from_ne_true, lt-ltb, ltb-true}
 use Rattle.std.proofs.lemmas.List.Edits.{map_over_more}
 use Rattle.sled_log.proofs.Moments.{or_settled, settled_by}
 use Rattle.sled_base.specs.declared.types.DiskPtr.TheVariants.{Inline, Blob}
 use Rattle.sled_log.specs.declared.memory.item.Mark.TheVariants as stored
 use Rattle.sled_log.specs.MemLog.Kept as kept
-
--- where no item stands that one asks for
-abbrev pub no_item : StoredItem
-no_item = record { mark = stored.Change Corrupted 0 None; end = 0; payload_end = 0; came = 0 }
 
 -- one item more that a loop changes in its place
 pub over_more : (f : StoredItem → StoredItem) (d : StoredItem) (old items : List StoredItem) (i : ℕ) → i < length old → i < length items → items ≡ map f (take i old) ++ drop i old

@@ -1,4 +1,4 @@
-use Rattle.sled_log.proofs.Names.{◌+◌, ℕ, List, [], ◌∷◌, map, drop, get_or, refl, sym, ◌∙◌, ap, subst, drop_all, drop_more, err_from_is_err_and, PageState, event_of, kept_in, last_in, Chain, effect_of_entry, StoredItem}
+use Rattle.sled_log.proofs.Names.{◌+◌, ℕ, List, [], ◌∷◌, map, drop, refl, sym, ◌∙◌, ap, subst, drop_all, drop_more, err_from_is_err_and, PageState, event_of, kept_in, last_in, Chain, effect_of_entry, StoredItem}
 use Rattle.sled_log.specs.Inside.ShapeLaws.{AreChains, chains-are}
 use Rattle.sled_log.proofs.MemCalls.{called_memory}
 use Rattle.sled_log.proofs.Moments.{now_is}
