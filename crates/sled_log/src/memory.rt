@@ -25,6 +25,7 @@ mod item;
 mod keeping;
 mod packed;
 mod pages;
+mod strides;
 
 use crate::LogError;
 use cuts::is_fair_cut;
@@ -36,6 +37,7 @@ use pages::{count_pages, said_at};
 use sled_base::growth::reserve;
 use sled_base::{DiskPtr, Lsn, MessageKind, PageId};
 use std::alloc::Global;
+use strides::Strides;
 
 const MAX_SIZE: u64 = i64::MAX as u64;
 
@@ -55,6 +57,8 @@ pub struct MemLog {
     items: Vec<LogItem>,
     // their payloads, one behind the other
     bytes: Vec<u8>,
+    // where items stand
+    strides: Strides,
     // how many items are stable
     stable: usize,
     // the log sizes of the stable messages, and of all
@@ -109,6 +113,7 @@ impl MemLog {
             pages: 0,
             items: Vec::new(alloc),
             bytes: Vec::new(alloc),
+            strides: Strides::new(alloc),
             stable: 0,
             stable_size: 0,
             size: 0,
@@ -151,6 +156,7 @@ impl MemLog {
             pages: _,
             mut items,
             mut bytes,
+            mut strides,
             stable,
             stable_size: _,
             size: _,
@@ -161,6 +167,7 @@ impl MemLog {
         keep_first(&mut items, stable + n);
         let (size, end) = behind(&items);
         bytes.truncate(end);
+        strides.cut(size);
         let pages = count_pages(&items);
         let stable = items.len();
         MemLog {
@@ -172,6 +179,7 @@ impl MemLog {
             pages,
             items,
             bytes,
+            strides,
             stable,
             stable_size: size,
             size,
@@ -217,6 +225,7 @@ impl MemLog {
             payload_end: self.bytes.len() + payload.len(),
             came: self.clock,
         };
+        self.strides.note(self.size, self.items.len());
         push(&mut self.items, &mut self.bytes, item, payload);
         Ok(())
     }

@@ -1,6 +1,6 @@
 // How a message is found by its place.
 
-ghost use Rattle.std.specs.Prelude.{◌≡◌, ◌+◌, ◌≤◌, ◌<◌, ◌^◌, ℕ, pos, length, Some, IfSome, slice_get, IsSomeAnd, vec_len};
+ghost use Rattle.std.specs.Prelude.{◌≡◌, ◌+◌, ◌≤◌, ◌<◌, ◌^◌, ℕ, pos, length, Some, IfSome, slice_get, IsSomeAnd, vec_len, get_or, ◌-◌, true};
 ghost use Rattle.sled_base.specs.Pointers.{offset_of};
 ghost use Rattle.sled_base.specs.declared.types.DiskPtr.TheVariants.{Blob};
 ghost use Rattle.sled_log.specs.MemLog.Items.{entry_of};
@@ -9,6 +9,7 @@ ghost use Rattle.sled_log.specs.MemLog.Kept as kept;
 ghost use Rattle.sled_log.specs.MemLog.Stored.{part};
 ghost use Rattle.sled_log.specs.Messages.{kind_at};
 ghost use Rattle.sled_log.specs.Pages.{IsReadAs};
+ghost use Rattle.sled_log.specs.declared.memory.item.LogItem.{LogItem as StoredItem};
 ghost use Rattle.sled_log.specs.Inside.Stored.{place_after, start_after, before_change};
 
 use super::MemLog;
@@ -65,7 +66,37 @@ impl MemLog {
             → offset_of change.pointer ≡ place
             → result ≡ i }
     {
+        let (from, to) = self.strides.around(place, self.items.len());
+        let near = from + self.items[from..to].partition_point(|item| item.end <= place);
+        if self.holds(near, place) {
+            near
+        } else {
+            self.index_among_all(place)
+        }
+    }
+
+    // The same where memory for a note was refused, which is to be looked for among all.
+    fn index_among_all(&self, place: LogOffset) -> usize
+        ensures { (i : ℕ) (item : KeptItem) (change : KeptChange)
+            → slice_get (kept_in self.now) i ≡ Some item
+            → item.mark ≡ kept.Change change
+            → offset_of change.pointer ≡ place
+            → result ≡ i }
+    {
         self.items.partition_point(|item| item.end <= place)
+    }
+
+    // Whether that place lies in the item, behind the one before it.
+    fn holds(&self, at: usize, place: LogOffset) -> bool
+        ensures { result ≡ true → (item : StoredItem)
+            → (place < (get_or self.now.items.items at item).end) × (at < vec_len self.now.items)
+            × (0 < at → (get_or self.now.items.items (at - 1) item).end ≤ place) }
+    {
+        let is_before_end = match self.items.get(at) {
+            Some(item) => place < item.end,
+            None => false,
+        };
+        is_before_end && (at == 0 || self.items[at - 1].end <= place)
     }
 
     // The kind of the message that stands there among the items, if one does, and where its payload begins in the buffer and how

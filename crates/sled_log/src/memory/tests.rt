@@ -9,19 +9,37 @@ use std::test::Fail;
 // Payloads above so many bytes are blobs.
 const LIMIT: usize = 4;
 
-const BYTES: [u8; 10] = [7, 0, 255, 1, 128, 9, 31, 254, 2, 64];
+// Payloads are empty, at the limit and one above it; and so long that messages end at, before and behind whole strides of the log, one
+// of them behind three.
+const LENGTHS: [usize; 11] = [0, 4, 5, 51, 111, 110, 0, 95, 112, 367, 238];
 
-// The payload of the message with this number: of 0 to 5 bytes, so some are empty, some at the limit, and some one above it.
-fn payload(bytes: &[u8], number: usize) -> &[u8] {
-    let start = number % 5;
-    bytes.get(start..start + number % 6).unwrap_or(bytes)
+const LONGEST: usize = 400;
+
+// Bytes of which no two parts that begin near each other are the same.
+fn bytes() -> [u8; LONGEST] {
+    let mut bytes = [0; LONGEST];
+    for (number, byte) in bytes.iter_mut().enumerate() {
+        *byte = (number * 7 % 251) as u8;
+    }
+    bytes
 }
 
-// A log of so many messages, and the pointers to them.
-fn filled(alloc: Global, bytes: &[u8], count: usize) -> Result<(MemLog, Vec<DiskPtr>), LogError> {
-    let mut log = MemLog::new(alloc, LIMIT, 0);
-    let mut pointers = Vec::new(alloc);
-    for number in 0..count {
+// The payload of the message with this number.
+fn payload(bytes: &[u8], number: usize) -> &[u8] {
+    let start = number % 5;
+    bytes
+        .get(start..start + LENGTHS[number % LENGTHS.len()])
+        .unwrap_or(bytes)
+}
+
+// Appends messages up to that number, and says where they are.
+fn append_up_to(
+    log: &mut MemLog,
+    bytes: &[u8],
+    pointers: &mut Vec<DiskPtr>,
+    count: usize,
+) -> Result<(), LogError> {
+    for number in pointers.len()..count {
         let (_, pointer, _) = log.append(
             MessageKind::InlineNode,
             number as u64,
@@ -29,7 +47,7 @@ fn filled(alloc: Global, bytes: &[u8], count: usize) -> Result<(MemLog, Vec<Disk
         )?;
         pointers.push(pointer)?;
     }
-    Ok((log, pointers))
+    Ok(())
 }
 
 // Whether a reader is told this payload, and the kind that it is kept under.
@@ -68,15 +86,23 @@ fn spare_is_small(log: &MemLog) -> bool {
     items <= log.items.len() / 8 + 7 && bytes <= log.bytes.len() / 8 + 7
 }
 
-// Whether a log of so many messages tells each, and after a crash the first half.
+// Whether a log of so many messages tells each, after a crash the first half, and each again once the others are appended anew.
 fn keeps_its_messages(alloc: Global, count: usize) -> Result<bool, LogError> {
-    let (log, pointers) = filled(alloc, &BYTES, count)?;
+    let bytes = bytes();
+    let mut log = MemLog::new(alloc, LIMIT, 0);
+    let mut pointers = Vec::new(alloc);
+    append_up_to(&mut log, &bytes, &mut pointers, count)?;
     let kept = count / 2;
-    if !tells(&log, &BYTES, &pointers, count) || !spare_is_small(&log) || !log.is_fair(kept) {
+    if !tells(&log, &bytes, &pointers, count) || !spare_is_small(&log) || !log.is_fair(kept) {
         return Ok(false);
     }
-    let left = log.stop(kept);
-    Ok(left.items.len() == kept && tells(&left, &BYTES, &pointers, kept))
+    let mut left = log.stop(kept);
+    if left.items.len() != kept || !tells(&left, &bytes, &pointers, kept) {
+        return Ok(false);
+    }
+    pointers.truncate(kept);
+    append_up_to(&mut left, &bytes, &mut pointers, count)?;
+    Ok(tells(&left, &bytes, &pointers, count))
 }
 
 #[test]
@@ -99,13 +125,14 @@ fn append_again(log: &mut MemLog, payload: &[u8]) -> Result<bool, LogError> {
 }
 
 fn appends_again(alloc: Global) -> Result<bool, LogError> {
+    let bytes = bytes();
     let mut log = MemLog::new(alloc, LIMIT, 0);
     for number in 0..40 {
-        if !append_again(&mut log, payload(&BYTES, number))? {
+        if !append_again(&mut log, payload(&bytes, number))? {
             return Ok(false);
         }
     }
-    Ok((log.items.len(), log.bytes.len()) == (40, 96))
+    Ok((log.items.len(), log.bytes.len()) == (40, 3560))
 }
 
 #[test]
@@ -129,7 +156,7 @@ fn rewrite_again(log: &mut MemLog, named: u64) -> Result<bool, LogError> {
 // The payload is kept once.
 fn rewrites_again(alloc: Global) -> Result<bool, LogError> {
     let mut log = MemLog::new(alloc, LIMIT, 1);
-    let _ = log.append(MessageKind::InlineNode, 0, &BYTES)?;
+    let _ = log.append(MessageKind::InlineNode, 0, &[7; 10])?;
     for number in 0..40u64 {
         if !rewrite_again(&mut log, number.saturating_mul(27))? {
             return Ok(false);
