@@ -28,11 +28,26 @@ printf 'Measured on %s: %s, %s processors, Linux %s, load average %s at the star
     "$(sed -n 's/^model name[^:]*: //p' /proc/cpuinfo | head -n 1)" "$(nproc)" "$(uname -r)" "$load_before" \
     "$(cut -d ' ' -f 1-3 /proc/loadavg)" "$(dpkg-query -W -f '${Version}' liblmdb-dev 2>/dev/null || echo unknown)"
 awk '
-    $3 == "dilluvas" { ours = $4 }
-    $3 == "lmdb" { rows[$1] = rows[$1] sprintf("| `%s`%s | %.0f | %.0f | %.2f |\n", $2, $1 == "disk" ? ", over a file" : "", ours, $4, ours / $4) }
+    $5 == "dilluvas" { ours = $6 }
+    $5 == "lmdb" { lmdb = $6 }
+    $5 == "lmdb" && $2 == 1000 {
+        calls[$1] = calls[$1] sprintf("| `%s`%s | %.0f | %.0f | %.2f |\n", $4, $1 == "disk" ? ", over a file" : "", ours, lmdb, ours / lmdb)
+    }
+    $5 == "lmdb" && $1 == "memory" && $2 != 1000 {
+        pages = pages sprintf("| %d | %d | %.0f | %.0f | %.2f |\n", $2, $3, ours, lmdb, ours / lmdb)
+    }
+    $5 == "pread" { away = sprintf("| %.0f | %.0f | %.0f | %.2f | %.2f |\n", ours, lmdb, $6, ours / lmdb, ours / $6) }
     END {
         print "| call | dilluvas, ns | LMDB, ns | ratio |"
         print "|---|---|---|---|"
-        printf "%s%s", rows["memory"], rows["disk"]
+        printf "%s%s", calls["memory"], calls["disk"]
+        print "\nTwo sets and a read of a page, nanoseconds a call:\n"
+        print "| pages | cache, MiB | dilluvas | LMDB | ratio |"
+        print "|---|---|---|---|---|"
+        printf "%s", pages
+        print "\nReads of 100,000 pages over a file with a cache of 1 MiB, which are away from memory nearly always, nanoseconds a call:\n"
+        print "| dilluvas | LMDB | `pread` | over LMDB | over `pread` |"
+        print "|---|---|---|---|---|"
+        printf "%s", away
     }
 ' "$memory/figures"

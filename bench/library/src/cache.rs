@@ -1,6 +1,6 @@
 //! The cache.
 
-use crate::store::{FIRST, Pairs, Store};
+use crate::store::{FIRST, Pages, Pairs, Store};
 use dilluvas::{Cache, Page, Swap, Token};
 
 /// A cache, and the tokens of its pages.
@@ -31,7 +31,7 @@ fn done(swap: Swap) -> Token {
     }
 }
 
-impl Store for Cached {
+impl Pages for Cached {
     fn allocate(&mut self, pairs: &Pairs) -> u64 {
         let token = self
             .cache
@@ -39,14 +39,6 @@ impl Store for Cached {
             .expect("it is allocated");
         self.tokens.push(token);
         token.page
-    }
-
-    fn value(&mut self, page: u64, key: &[u8], value: &mut Vec<u8>) {
-        let found = self
-            .cache
-            .value_into(page, key, value)
-            .expect("the page is read");
-        assert!(found.is_some());
     }
 
     fn read(&mut self, page: u64) -> usize {
@@ -59,6 +51,20 @@ impl Store for Cached {
             .sum()
     }
 
+    fn flush(&mut self) {
+        self.cache.flush().expect("it is flushed");
+    }
+}
+
+impl Store for Cached {
+    fn value(&mut self, page: u64, key: &[u8], value: &mut Vec<u8>) {
+        let found = self
+            .cache
+            .value_into(page, key, value)
+            .expect("the page is read");
+        assert!(found.is_some());
+    }
+
     fn set(&mut self, page: u64, key: &[u8], value: &[u8]) {
         let token = *self.token(page);
         *self.token(page) = done(self.cache.set(token, key, value).expect("the key is set"));
@@ -68,9 +74,5 @@ impl Store for Cached {
         let token = *self.token(page);
         let swap = self.cache.replace(token, pairs.iter().copied());
         *self.token(page) = done(swap.expect("the page is replaced"));
-    }
-
-    fn flush(&mut self) {
-        self.cache.flush().expect("it is flushed");
     }
 }

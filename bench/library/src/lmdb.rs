@@ -1,7 +1,7 @@
 //! The same pages in LMDB, through its C interface: a row for each stamp and each pair, in one tree. All between two flushes is one
 //! transaction.
 
-use crate::store::{FIRST, Pairs, Store};
+use crate::store::{FIRST, Pages, Pairs, Store};
 use std::ffi::{CString, c_char, c_int, c_uint, c_void};
 use std::path::Path;
 use std::ptr::{null, null_mut};
@@ -157,7 +157,7 @@ impl Lmdb {
     }
 }
 
-impl Store for Lmdb {
+impl Pages for Lmdb {
     fn allocate(&mut self, pairs: &Pairs) -> u64 {
         let page = FIRST + self.stamps.len() as u64;
         self.stamps.push(1);
@@ -166,12 +166,6 @@ impl Store for Lmdb {
             self.put(page, key, value);
         }
         page
-    }
-
-    fn value(&mut self, page: u64, key: &[u8], value: &mut Vec<u8>) {
-        let key = row(page, key);
-        let found = self.seek(&mut given(&key), SET).expect("the key is there");
-        value.extend_from_slice(taken(&found));
     }
 
     fn read(&mut self, page: u64) -> usize {
@@ -183,6 +177,22 @@ impl Store for Lmdb {
         });
         self.bytes = bytes;
         self.bytes.len()
+    }
+
+    fn flush(&mut self) {
+        unsafe {
+            mdb_cursor_close(self.cursor);
+            check(mdb_txn_commit(self.txn));
+        }
+        self.begin();
+    }
+}
+
+impl Store for Lmdb {
+    fn value(&mut self, page: u64, key: &[u8], value: &mut Vec<u8>) {
+        let key = row(page, key);
+        let found = self.seek(&mut given(&key), SET).expect("the key is there");
+        value.extend_from_slice(taken(&found));
     }
 
     fn set(&mut self, page: u64, key: &[u8], value: &[u8]) {
@@ -199,14 +209,6 @@ impl Store for Lmdb {
         for (key, value) in pairs {
             self.put(page, key, value);
         }
-    }
-
-    fn flush(&mut self) {
-        unsafe {
-            mdb_cursor_close(self.cursor);
-            check(mdb_txn_commit(self.txn));
-        }
-        self.begin();
     }
 }
 

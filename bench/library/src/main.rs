@@ -1,24 +1,24 @@
 //! How long calls of the library take from Rust, beside LMDB through its C interface: the same loops over both.
 //!
-//! `library MEMORY DISK`: a line for each row, `PLACE ROW STORE NANOSECONDS`: the least of the processor's times for a call. MEMORY is a
-//! folder that lies in memory, where nothing waits for a disk, and DISK one on a disk, to which each flush is synced.
+//! `library MEMORY DISK`: a line for each row and store, `PLACE PAGES CAPACITY ROW STORE NANOSECONDS`: the least of the processor's times
+//! for a call. MEMORY is a folder in memory, where nothing waits for a disk, and DISK one on a disk, to which each flush is synced.
+//! CAPACITY is that of the cache, in MiB.
 
 use cache::Cached;
 use dilluvas::{Cache, FileSettings, Settings};
 use lmdb::Lmdb;
+use plain_file::PlainFile;
 use std::path::Path;
 use std::{env, fs};
-use store::{FIRST, Store};
+use store::{FIRST, Pages, Store};
 
 mod cache;
 mod lmdb;
+mod plain_file;
 mod store;
 
-const PAGES: u64 = 1000;
 const CALLS: u64 = 200_000;
 const RUNS: usize = 5;
-// All pages stay in memory, as LMDB's do.
-const CAPACITY: u64 = 64 << 20;
 const KEYS: [&[u8]; 4] = [b"key0", b"key1", b"key2", b"key3"];
 const VALUE: &[u8] = b"a value of 24 bytes here";
 
@@ -43,119 +43,232 @@ fn processor_time() -> u64 {
     time.seconds as u64 * 1_000_000_000 + time.nanoseconds as u64
 }
 
-// The pages of so many calls, in a mixed order.
-fn pages(count: u64) -> impl Iterator<Item = u64> {
-    (0..count).map(|n| FIRST + n.wrapping_mul(0x9e37_79b9_7f4a_7c15) % PAGES)
+/// Loops over a store that has so many pages.
+#[derive(Clone, Copy)]
+struct Loops {
+    pages: u64,
 }
 
-fn fill(store: &mut dyn Store) {
-    let pairs = KEYS.map(|key| (key, VALUE));
-    for _ in 0..PAGES {
-        store.allocate(&pairs);
+impl Loops {
+    // The pages of so many calls, in a mixed order.
+    fn mixed(self, calls: u64) -> impl Iterator<Item = u64> {
+        (0..calls).map(move |n| FIRST + n.wrapping_mul(0x9e37_79b9_7f4a_7c15) % self.pages)
     }
-    store.flush();
-}
 
-fn values(store: &mut dyn Store) -> u64 {
-    let mut value = Vec::new();
-    let mut bytes = 0;
-    for page in pages(CALLS) {
-        value.clear();
-        store.value(page, KEYS[(page % 4) as usize], &mut value);
-        bytes += value.len() as u64;
-    }
-    bytes
-}
-
-fn reads(store: &mut dyn Store) -> u64 {
-    pages(CALLS).map(|page| store.read(page) as u64).sum()
-}
-
-fn sets(store: &mut dyn Store) -> u64 {
-    for page in pages(CALLS) {
-        store.set(page, KEYS[(page % 4) as usize], VALUE);
-    }
-    CALLS
-}
-
-fn flushed_sets(store: &mut dyn Store) -> u64 {
-    for (call, page) in (1..).zip(pages(CALLS)) {
-        store.set(page, KEYS[(page % 4) as usize], VALUE);
-        if call % 1000 == 0 {
-            store.flush();
+    fn fill(self, store: &mut dyn Pages) {
+        let pairs = KEYS.map(|key| (key, VALUE));
+        for _ in 0..self.pages {
+            store.allocate(&pairs);
         }
+        store.flush();
     }
-    CALLS
-}
 
-fn replacements(store: &mut dyn Store) -> u64 {
-    let pairs = KEYS.map(|key| (key, VALUE));
-    for page in pages(CALLS) {
-        store.replace(page, &pairs);
+    fn values(self, store: &mut dyn Store) -> u64 {
+        let mut value = Vec::new();
+        let mut bytes = 0;
+        for page in self.mixed(CALLS) {
+            value.clear();
+            store.value(page, KEYS[(page % 4) as usize], &mut value);
+            bytes += value.len() as u64;
+        }
+        bytes
     }
-    CALLS
+
+    fn reads(self, store: &mut dyn Pages) -> u64 {
+        self.mixed(CALLS).map(|page| store.read(page) as u64).sum()
+    }
+
+    fn sets(self, store: &mut dyn Store) -> u64 {
+        for page in self.mixed(CALLS) {
+            store.set(page, KEYS[(page % 4) as usize], VALUE);
+        }
+        CALLS
+    }
+
+    fn flushed_sets(self, store: &mut dyn Store) -> u64 {
+        for (call, page) in (1..).zip(self.mixed(CALLS)) {
+            store.set(page, KEYS[(page % 4) as usize], VALUE);
+            if call % 1000 == 0 {
+                store.flush();
+            }
+        }
+        CALLS
+    }
+
+    // Each page gets two values and is read.
+    fn rounds(self, store: &mut dyn Store) -> u64 {
+        let mut bytes = 0;
+        for page in self.mixed(CALLS / 3) {
+            store.set(page, KEYS[(page % 4) as usize], VALUE);
+            store.set(page, KEYS[(page / 4 % 4) as usize], VALUE);
+            bytes += store.read(page) as u64;
+        }
+        bytes
+    }
+
+    fn replacements(self, store: &mut dyn Store) -> u64 {
+        let pairs = KEYS.map(|key| (key, VALUE));
+        for page in self.mixed(CALLS) {
+            store.replace(page, &pairs);
+        }
+        CALLS
+    }
+
+    fn allocations(self, store: &mut dyn Store) -> u64 {
+        let pairs = KEYS.map(|key| (key, VALUE));
+        (0..CALLS).map(|_| store.allocate(&pairs)).sum()
+    }
 }
 
-fn allocations(store: &mut dyn Store) -> u64 {
-    let pairs = KEYS.map(|key| (key, VALUE));
-    (0..CALLS).map(|_| store.allocate(&pairs)).sum()
+/// A row: a loop over so many pages, with a cache of so many MiB. The loop answers a number that all stores answer alike.
+struct Row {
+    name: &'static str,
+    run: fn(Loops, &mut dyn Store) -> u64,
+    pages: u64,
+    capacity: u64,
 }
 
-/// A loop of so many calls over a store that was filled. It answers a number that both stores answer alike.
-type Loop = fn(&mut dyn Store) -> u64;
+// A row of 1,000 pages, which all stay in memory.
+const fn few(name: &'static str, run: fn(Loops, &mut dyn Store) -> u64) -> Row {
+    Row {
+        name,
+        run,
+        pages: 1000,
+        capacity: 64,
+    }
+}
 
-const ROWS: [(&str, Loop); 6] = [
-    ("value", values),
-    ("get_into", reads),
-    ("set", sets),
-    ("set-and-flush", flushed_sets),
-    ("replace", replacements),
-    ("allocate", allocations),
+// Two sets and a read, of so many pages.
+const fn many(pages: u64, capacity: u64) -> Row {
+    Row {
+        name: "set-set-get_into",
+        run: Loops::rounds,
+        pages,
+        capacity,
+    }
+}
+
+const ROWS: [Row; 6] = [
+    few("value", Loops::values),
+    few("get_into", |loops, store| loops.reads(store)),
+    few("set", Loops::sets),
+    few("set-and-flush", Loops::flushed_sets),
+    few("replace", Loops::replacements),
+    few("allocate", Loops::allocations),
 ];
 
-// Both stores in a new folder.
-fn stores(folder: &Path, on_disk: bool) -> [(&'static str, Box<dyn Store>); 2] {
-    let _ = fs::remove_dir_all(folder);
-    fs::create_dir_all(folder).expect("a folder is made");
+// In memory alone: the program's own capacity, and one that takes all pages.
+const MANY: [Row; 6] = [
+    many(10_000, 1),
+    many(10_000, 64),
+    many(100_000, 1),
+    many(100_000, 512),
+    many(1_000_000, 1),
+    many(1_000_000, 4096),
+];
+
+// A cache in a new folder.
+fn cached(folder: &Path, on_disk: bool, cache_capacity: u64) -> Box<dyn Store> {
     let cache = if on_disk {
         let settings = FileSettings {
-            cache_capacity: CAPACITY,
+            cache_capacity,
             ..FileSettings::default()
         };
         Cache::open(folder.join("pages"), &settings)
     } else {
         let settings = Settings {
-            cache_capacity: CAPACITY,
+            cache_capacity,
             ..Settings::default()
         };
         Cache::in_memory(&settings)
     };
-    let cached = Cached::over(cache.expect("a cache is opened"));
-    [
-        ("dilluvas", Box::new(cached)),
-        ("lmdb", Box::new(Lmdb::open(folder, on_disk))),
-    ]
+    Box::new(Cached::over(cache.expect("a cache is opened")))
 }
 
-// The least times of a loop over both stores.
-fn measure(folder: &Path, on_disk: bool, name: &str, run: Loop) {
-    let mut least = [u64::MAX; 2];
-    let mut names = [""; 2];
+// A new folder.
+fn emptied(folder: &Path) -> &Path {
+    let _ = fs::remove_dir_all(folder);
+    fs::create_dir_all(folder).expect("a folder is made");
+    folder
+}
+
+// The processor's time of a loop over a store, and what it answered.
+fn timed<S: ?Sized>(store: &mut S, run: impl FnOnce(&mut S) -> u64) -> (u64, u64) {
+    let start = processor_time();
+    let answer = run(store);
+    (processor_time() - start, answer)
+}
+
+// The least times of so many stores, each of which `run` makes anew and runs. They answer alike.
+fn least_times<const N: usize>(mut run: impl FnMut(usize) -> (u64, u64)) -> [u64; N] {
+    let mut least = [u64::MAX; N];
     for _ in 0..RUNS {
-        let mut answers = [0; 2];
-        for (at, (store_name, mut store)) in stores(folder, on_disk).into_iter().enumerate() {
-            fill(&mut *store);
-            let start = processor_time();
-            answers[at] = run(&mut *store);
-            least[at] = least[at].min(processor_time() - start);
-            names[at] = store_name;
+        let mut answers = [0; N];
+        for at in 0..N {
+            let (time, answer) = run(at);
+            answers[at] = answer;
+            least[at] = least[at].min(time);
         }
-        assert_eq!(answers[0], answers[1], "the stores differ");
+        assert!(
+            answers.iter().all(|answer| *answer == answers[0]),
+            "the stores differ"
+        );
     }
+    least
+}
+
+fn print(place: &str, row: &str, pages: u64, capacity: u64, stores: &[&str], times: &[u64]) {
+    for (store, time) in stores.iter().zip(times) {
+        let nanoseconds = *time as f64 / CALLS as f64;
+        println!("{place} {pages} {capacity} {row} {store} {nanoseconds}");
+    }
+}
+
+// A row over the cache and LMDB.
+fn measure(folder: &Path, on_disk: bool, row: &Row) {
+    let loops = Loops { pages: row.pages };
+    let times = least_times::<2>(|at| {
+        let folder = emptied(folder);
+        let mut store = match at {
+            0 => cached(folder, on_disk, row.capacity << 20),
+            _ => Box::new(Lmdb::open(folder, on_disk)),
+        };
+        loops.fill(&mut *store);
+        timed(&mut *store, |store| (row.run)(loops, store))
+    });
     let place = if on_disk { "disk" } else { "memory" };
-    for (store, time) in names.iter().zip(least) {
-        println!("{place} {name} {store} {}", time as f64 / CALLS as f64);
-    }
+    print(
+        place,
+        row.name,
+        row.pages,
+        row.capacity,
+        &["dilluvas", "lmdb"],
+        &times,
+    );
+}
+
+// Reads of pages that left memory, over a file, beside LMDB and reads of the same bytes of a plain file.
+fn measure_away(folder: &Path) {
+    let (pages, capacity) = (100_000, 1);
+    let loops = Loops { pages };
+    let times = least_times::<3>(|at| {
+        let folder = emptied(folder);
+        let mut store: Box<dyn Pages> = match at {
+            0 => cached(folder, true, capacity << 20),
+            1 => Box::new(Lmdb::open(folder, true)),
+            _ => Box::new(PlainFile::open(&folder.join("plain"))),
+        };
+        loops.fill(&mut *store);
+        timed(&mut *store, |store| loops.reads(store))
+    });
+    print(
+        "disk",
+        "get_into",
+        pages,
+        capacity,
+        &["dilluvas", "lmdb", "pread"],
+        &times,
+    );
 }
 
 fn main() {
@@ -163,9 +276,13 @@ fn main() {
     let [memory, disk] = &folders[..] else {
         panic!("usage: library MEMORY DISK");
     };
-    for (folder, on_disk) in [(memory, false), (disk, true)] {
-        for (name, run) in ROWS {
-            measure(&Path::new(folder).join("library"), on_disk, name, run);
-        }
+    let memory = Path::new(memory).join("library");
+    let disk = Path::new(disk).join("library");
+    for row in ROWS.iter().chain(&MANY) {
+        measure(&memory, false, row);
     }
+    for row in &ROWS {
+        measure(&disk, true, row);
+    }
+    measure_away(&disk);
 }
