@@ -1,17 +1,22 @@
 -- Opening a cache over a file, and what the program asks of the file's disk.
-use Rattle.std.specs.Prelude.{◌≡◌, ◌⊎◌, ℕ, ⊤, false, Option, None, Some}
+use Rattle.std.specs.Prelude.{◌≡◌, ◌≢◌, ◌⊎◌, ℕ, ⊤, false, Option, None, Some}
 use Rattle.sled_base.specs.declared.types.Error.{Error}
 use Rattle.sled_base.specs.declared.types.Error.TheVariants.{Unsupported}
 use Rattle.sled_base.specs.declared.types.Why.{Why}
+use Rattle.sled_log.specs.declared.log.Log.{Ghosts}
 use Rattle.sled_disk.specs.declared.disk.staged.tasks.Task.{Task}
 use Rattle.sled_disk.specs.declared.disk.staged.tasks.Task.TheVariants.{Write, Sync}
 use Rattle.sled_pagecache.specs.Cache.{Cache}
 use Rattle.sled_pagecache.specs.Opening.{fault_of}
 use Rattle.sled_pagecache.specs.declared.pagecache.handles.config.Config.{Config}
+use Rattle.sled_c.specs.Handles.{FileLog}
 use Rattle.sled_c.specs.Numbers as number
 use Rattle.sled_c.specs.Numbers.{number_of_error}
 use Rattle.sled_c.specs.declared.exports.file.FileSettings.{FileSettings}
 use Rattle.sled_c.specs.declared.exports.device.FileTask.{FileTask}
+use Rattle.sled_c.specs.declared.opening.Opening.{Opening}
+use Rattle.sled_c.specs.declared.opening.Step.TheVariants.{Read}
+use Rattle.sled_c.specs.declared.opening.read_log.ReadLog.{ReadLog}
 use Rattle.sled_c.specs.declared.store.Store.{Store}
 use Rattle.sled_c.specs.declared.store.Store.TheVariants.{Memory, File, Begun}
 
@@ -60,6 +65,37 @@ OpenFile settings None (Some new) status = (fault_of (config_of settings) ≡ No
 OpenFile settings (Some (Begun opening)) new status = GoesOn opening.config new status
 OpenFile settings (Some (Memory old)) new status = (status ≡ number.already_open) × (new ≡ Some (Memory old))
 OpenFile settings (Some (File old)) new status = (status ≡ number.already_open) × (new ≡ Some (File old))
+
+-- the log of the file was read, and no cache is open over it yet
+abbrev pub IsRead : Opening → FileLog → Type 0
+IsRead opening log = (read : ReadLog) × (opening.step ≡ Some (Read read)) × (read.log ≡ log)
+
+abbrev pub HasRead : Opening → Type 0
+HasRead opening = (log : FileLog) × IsRead opening log
+
+-- none was read, or it has more bytes than one that holds nothing
+abbrev pub IsNotNew : Ghosts FileLog → Opening → Type 0
+IsNotNew g opening = (log : FileLog) → IsRead opening log → g.bytes log ≢ 9
+
+-- An opening with these settings goes on until its log is read: bytes are needed, or it is read, or the handle is closed and it is told why.
+abbrev pub ReadsOn : Config → Option Store → ℕ → Type 0
+ReadsOn config (Some (Begun opening)) status = (opening.config ≡ config) × ((status ≡ number.needs) ⊎ ((status ≡ number.ok) × HasRead opening))
+ReadsOn config (Some store) status = ⊥
+ReadsOn config None status = IsFailure status
+
+-- the same of a store that stays behind its handle
+abbrev pub ReadsOnIn : Store → Store → ℕ → Type 0
+ReadsOnIn (Begun opening) new status = ReadsOn opening.config (Some new) status
+ReadsOnIn old new status = (status ≡ number.already_open) × (new ≡ old)
+
+-- The log of a file is begun, or an opening that was begun goes on, and no cache is opened. What is wrong with the settings is told first,
+-- and the handle stays closed. An open handle stays.
+abbrev pub OpenLog : FileSettings → Option Store → Option Store → ℕ → Type 0
+OpenLog settings None None status = IsFailure status × TellsFault (config_of settings) status
+OpenLog settings None (Some new) status = (fault_of (config_of settings) ≡ None) × ReadsOn (config_of settings) (Some new) status
+OpenLog settings (Some (Begun opening)) new status = ReadsOn opening.config new status
+OpenLog settings (Some (Memory old)) new status = (status ≡ number.already_open) × (new ≡ Some (Memory old))
+OpenLog settings (Some (File old)) new status = (status ≡ number.already_open) × (new ≡ Some (File old))
 
 abbrev pub nothing_to_do : FileTask
 nothing_to_do = record { kind = 0; at = 0; len = 0 }

@@ -8,3 +8,4 @@ pub mod Steps
 pub mod Handles
 pub mod Openings
 pub mod Files
+pub mod Rewriting

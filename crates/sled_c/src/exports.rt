@@ -3,6 +3,7 @@
 //! - `opening`: opening a cache in memory, closing a handle, and the texts of statuses
 //! - `file`: opening a cache over a file
 //! - `device`: what the program reads and writes for one
+//! - `rewriting`: rewriting a cache into another log
 //! - `pages`, `roots`, `batches`, `log`: as in `calls`
 
 // Makes a call on the cache behind a handle, over whichever log that is. A closed handle has no cache, and one of which a file is being
@@ -32,4 +33,5 @@ mod file;
 mod log;
 mod opening;
 mod pages;
+mod rewriting;
 mod roots;

@@ -1,14 +1,14 @@
 //! Opening a cache over a file, of which the program hands in the bytes.
 
-ghost use Rattle.std.specs.Prelude.{◌≡◌, None, IfOk, IfErr, IfSome};
-ghost use Rattle.sled_pagecache.specs.Opening.{fault_of};
-ghost use Rattle.sled_c.specs.Files.{IsFailure, IsOpened, TellsFault};
+ghost use Rattle.std.specs.Prelude.{◌≡◌, None, true, IfOk, IfErr, IfSome, IfNone};
+ghost use Rattle.sled_pagecache.specs.Opening.{MayBeOpened, fault_of};
+ghost use Rattle.sled_c.specs.Files.{HasRead, IsFailure, IsNotNew, IsOpened, IsRead, TellsFault};
 
 use crate::status::{READ, status_of};
 use read_log::ReadLog;
 use sled_disk::{DiskLog, Reader, StagedDisk};
 use sled_log::LogError;
-use sled_pagecache::{Config, Disk, Error, PageCache};
+use sled_pagecache::{Config, Disk, Error, Log, PageCache};
 use std::alloc::Global;
 
 mod read_log;
@@ -18,6 +18,9 @@ pub type FileLog = DiskLog<StagedDisk>;
 
 /// A cache over one.
 pub type FileCache = PageCache<FileLog>;
+
+// So many bytes has the file of a log that holds nothing.
+const NEW_SIZE: u64 = 9;
 
 /// A cache that is being opened over a file: the file is synced, then its log is read, and then the cache's own pages are.
 ///
@@ -95,20 +98,74 @@ impl Opening {
         ensures fails { IfErr result IsFailure }
         ensures config { self.new.config ≡ self.old.config }
     {
+        match self.read_on(alloc)? {
+            Some(read) => self.start(alloc, read),
+            None => Ok(None),
+        }
+    }
+
+    /// Goes on until the log is read, and no further: whether it is, or bytes are needed; or a status that tells why it won't be.
+    pub fn read_log(&mut self, alloc: Global) -> Result<bool, u32>
+        ensures read { IfOk result (λ is_read. is_read ≡ true → HasRead self.new) }
+        ensures fails { IfErr result IsFailure }
+        ensures config { self.new.config ≡ self.old.config }
+    {
+        let Some(read) = self.read_on(alloc)? else {
+            return Ok(false);
+        };
+        self.put_log(read.log);
+        Ok(true)
+    }
+
+    /// Takes out the log, if it was read and holds nothing.
+    pub fn take_new_log(&mut self) -> Option<FileLog>
+        ensures some { IfSome result (λ log. IsRead self.old log) }
+        ensures may { IfSome result (MayBeOpened ⟦<FileLog as Log>⟧) }
+        ensures none { IfNone result (IsNotNew ⟦<FileLog as Log>⟧ self.old) }
+        ensures kept { IfNone result (self.new ≡ self.old) }
+        ensures config { self.new.config ≡ self.old.config }
+    {
+        let is_new = match &self.step {
+            Some(Step::Read(read)) => read.log.size() == NEW_SIZE,
+            _ => false,
+        };
+        if !is_new {
+            return None;
+        }
+        match self.step.take() {
+            Some(Step::Read(read)) => Some(read.log),
+            _ => unreachable!(),
+        }
+    }
+
+    /// Puts a log there, over which a cache can be opened.
+    pub fn put_log(&mut self, log: FileLog)
+        requires { MayBeOpened ⟦<FileLog as Log>⟧ log }
+        ensures read { IsRead self.new log }
+        ensures config { self.new.config ≡ self.old.config }
+    {
+        self.step = Some(Step::Read(ReadLog { log }));
+        self.needs = None;
+    }
+
+    // Goes on until the log is read: that, or none where bytes are needed, or a status that tells why it won't be.
+    fn read_on(&mut self, alloc: Global) -> Result<Option<ReadLog>, u32>
+        ensures fails { IfErr result IsFailure }
+        ensures config { self.new.config ≡ self.old.config }
+    {
         if self.has_failed() {
             return Err(status_of_log(LogError::WriteFault));
         }
         match self.step.take() {
             Some(Step::Unread(disk)) => self.begin(alloc, disk),
             Some(Step::Reading(reader, disk)) => self.read(alloc, reader, disk),
-            Some(Step::Read(read)) => self.start(alloc, read),
+            Some(Step::Read(read)) => Ok(Some(read)),
             None => Err(status_of_log(LogError::WriteFault)),
         }
     }
 
     // Syncs the file, and begins to read its log.
-    fn begin(&mut self, alloc: Global, mut disk: StagedDisk) -> Result<Option<FileCache>, u32>
-        ensures opened { IfOk result (λ found. IfSome found (IsOpened self.old.config)) }
+    fn begin(&mut self, alloc: Global, mut disk: StagedDisk) -> Result<Option<ReadLog>, u32>
         ensures fails { IfErr result IsFailure }
         ensures config { self.new.config ≡ self.old.config }
     {
@@ -119,29 +176,30 @@ impl Opening {
             Ok(reader) => self.read(alloc, reader, disk),
             Err(error) => {
                 let needs = disk.needs();
-                self.wait(status_of_log(error), needs, Step::Unread(disk))
+                self.wait(status_of_log(error), needs, Step::Unread(disk))?;
+                Ok(None)
             }
         }
     }
 
-    // Reads the log on, and then starts the cache. The piece that was handed in has been taken by the reader, and is let go.
+    // Reads the log on. The piece that was handed in has been taken by the reader, and is let go.
     fn read(
         &mut self,
         alloc: Global,
         reader: Reader,
         disk: StagedDisk,
-    ) -> Result<Option<FileCache>, u32>
-        ensures opened { IfOk result (λ found. IfSome found (IsOpened self.old.config)) }
+    ) -> Result<Option<ReadLog>, u32>
         ensures fails { IfErr result IsFailure }
         ensures config { self.new.config ≡ self.old.config }
     {
         let segment_size = self.config.segment_size as u64;
         match DiskLog::open_with(alloc, reader, disk, segment_size, 0) {
-            Ok(log) => self.start(alloc, ReadLog { log }),
+            Ok(log) => Ok(Some(ReadLog { log })),
             Err((error, reader, disk)) => {
                 let needs = disk.needs();
                 disk.forget();
-                self.wait(status_of_log(error), needs, Step::Reading(reader, disk))
+                self.wait(status_of_log(error), needs, Step::Reading(reader, disk))?;
+                Ok(None)
             }
         }
     }
@@ -163,20 +221,15 @@ impl Opening {
                     return Err(status);
                 }
                 let needs = log.disk().needs();
-                self.wait(status, needs, Step::Read(ReadLog { log }))
+                self.wait(status, needs, Step::Read(ReadLog { log }))?;
+                Ok(None)
             }
         }
     }
 
     // Waits for bytes, where some are needed and a read failed.
-    fn wait(
-        &mut self,
-        status: u32,
-        needs: Option<(u64, usize)>,
-        step: Step,
-    ) -> Result<Option<FileCache>, u32>
+    fn wait(&mut self, status: u32, needs: Option<(u64, usize)>, step: Step) -> Result<(), u32>
         requires { IsFailure status }
-        ensures waits { IfOk result (λ found. found ≡ None) }
         ensures fails { IfErr result IsFailure }
         ensures config { self.new.config ≡ self.old.config }
     {
@@ -185,7 +238,7 @@ impl Opening {
         }
         self.step = Some(step);
         self.needs = needs;
-        Ok(None)
+        Ok(())
     }
 }
 

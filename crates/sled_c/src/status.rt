@@ -86,7 +86,7 @@ pub const IDS_USED_UP: u32 = 106;
 /// The stamp of the page is the greatest.
 pub const STAMP_USED_UP: u32 = 107;
 
-/// A batch is open: it takes no flush, no second pin, and no id that needs a new counter.
+/// A batch is open: it takes no flush, no second pin, no id that needs a new counter, and no rewriting.
 pub const BATCH_OPEN: u32 = 108;
 
 /// There are 2^24 other names.

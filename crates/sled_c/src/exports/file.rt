@@ -2,7 +2,7 @@
 
 ghost use Rattle.std.specs.Prelude.{◌≡◌, None, IfOk, IfErr};
 ghost use Rattle.sled_pagecache.specs.Opening.{fault_of};
-ghost use Rattle.sled_c.specs.Files.{GoesOnIn, IsBegun, IsBeingOpened, IsFailure, OpenFile, TellsFault, config_of};
+ghost use Rattle.sled_c.specs.Files.{GoesOnIn, IsBegun, IsBeingOpened, IsFailure, OpenFile, OpenLog, ReadsOnIn, TellsFault, config_of};
 
 use crate::handle::Handle;
 use crate::opening::Opening;
@@ -82,5 +82,48 @@ fn go_on(alloc: Global, store: &mut Store) -> Result<u32, u32>
             Ok(OK)
         }
         None => Ok(NEEDS),
+    }
+}
+
+/// Makes a new log in a file of no bytes behind a closed handle, once the settings are found to be right, and opens no cache over it. Where
+/// bytes were needed it goes on, with what was begun, as it does with an opening that was begun, until its log is read.
+#[unsafe(no_mangle)]
+pub extern "C" fn dilluvas_raw_new_log(
+    alloc: Global,
+    handle: &mut Handle,
+    settings: &FileSettings,
+) -> u32
+    ensures { OpenLog settings.now handle.old.store handle.new.store result }
+{
+    let begun = match handle.take(alloc) {
+        Some(store) => Ok(store),
+        None => new_store(alloc, *settings, 0),
+    };
+    let mut store = match begun {
+        Ok(store) => store,
+        Err(status) => return status,
+    };
+    match read_on(alloc, &mut store) {
+        Ok(status) => {
+            handle.put(alloc, store);
+            status
+        }
+        Err(status) => status,
+    }
+}
+
+// Goes on until the log is read. The handle is to be closed where that failed.
+fn read_on(alloc: Global, store: &mut Store) -> Result<u32, u32>
+    ensures reads_on { IfOk result (ReadsOnIn store.old store.new) }
+    ensures fails { IfErr result IsFailure }
+    ensures begun { IfErr result (λ status. IsBeingOpened store.old) }
+{
+    let Store::Begun(opening) = store else {
+        return Ok(ALREADY_OPEN);
+    };
+    if opening.read_log(alloc)? {
+        Ok(OK)
+    } else {
+        Ok(NEEDS)
     }
 }

@@ -61,27 +61,35 @@ fn new_store(alloc: Global, settings: Settings) -> Result<Box<Store>, u32>
     Box::new(alloc, Store::Memory(cache)).map_err(|_| MEMORY)
 }
 
+impl Settings {
+    /// Those of the cache.
+    pub fn config(self) -> Config
+        ensures { result ≡ config_of self }
+    {
+        Config {
+            cache_capacity: self.cache_capacity,
+            idgen_persist_interval: self.idgen_persist_interval,
+            segment_size: self.segment_size,
+        }
+    }
+
+    /// An empty log in memory.
+    pub fn log(self, alloc: Global) -> MemLog
+        ensures { state_of result ≡ record { stable = []; pending = []; usable = true } }
+    {
+        MemLog::new(alloc, self.blob_limit, self.clean_every)
+    }
+}
+
 // A cache over a new log in memory.
 fn new_cache(alloc: Global, settings: Settings) -> Result<PageCache<MemLog>, u32>
     ensures new { IfOk result (IsNew (config_of settings)) }
     ensures told { IfErr result (TellsWhy settings) }
 {
-    let config = Config {
-        cache_capacity: settings.cache_capacity,
-        idgen_persist_interval: settings.idgen_persist_interval,
-        segment_size: settings.segment_size,
-    };
-    match PageCache::start(alloc, config, new_log(alloc, settings)) {
+    match PageCache::start(alloc, settings.config(), settings.log(alloc)) {
         Ok(cache) => Ok(cache),
         Err((error, _)) => Err(status_of(&error)),
     }
-}
-
-// An empty log in memory.
-fn new_log(alloc: Global, settings: Settings) -> MemLog
-    ensures { state_of result ≡ record { stable = []; pending = []; usable = true } }
-{
-    MemLog::new(alloc, settings.blob_limit, settings.clean_every)
 }
 
 /// Closes the cache behind a handle, or the file that is being opened. Nothing is flushed, so an open batch is lost.

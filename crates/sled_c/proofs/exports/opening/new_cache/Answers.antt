@@ -6,6 +6,7 @@ use Rattle.sled_c.proofs.exports.opening.new_cache.Goals as goal
 
 pub returns-in-Ok-clause-new : goal.returns-in-Ok-clause-new
 returns-in-Ok-clause-new c =
-    let none = faultless (fault_of (config_of c.args.settings)) (λ why fault. cc (c.in-Ok.ensures.settings why fault)) in
-    let opened = c.in-Ok.ensures.opens none tt nothing (holds_nothing _ c.new_log.ensures) in
-    record { faultless = none; settings = opened.config_is; held = opened.held_then; is = opened.is; stable = opened.stable own_are_missing; closed = c.in-Ok.ensures.closed }
+    let started = rw c.config.ensures at c.in-Ok.ensures in
+    let none = faultless (fault_of (config_of c.args.settings)) (λ why fault. cc (started.settings why fault)) in
+    let opened = started.opens none tt nothing (holds_nothing _ c.log.ensures) in
+    record { faultless = none; settings = opened.config_is; held = opened.held_then; is = opened.is; stable = opened.stable own_are_missing; closed = started.closed }

@@ -1,0 +1,48 @@
+-- What rewriting a cache was answered, as its status tells it.
+use Rattle.std.proofs.Common.{◌≡◌, ℕ, Option, None, Some, Result, Ok, Err, inr, refl, sym, subst}
+use Rattle.sled_base.specs.declared.types.Error.{Error}
+use Rattle.sled_log.specs.declared.log.Log.{Ghosts}
+use Rattle.sled_log.specs.declared.memory.MemLog.{MemLog}
+use Rattle.sled_pagecache.specs.Cache.{Cache}
+use Rattle.sled_pagecache.specs.declared.pagecache.handles.config.Config.{Config}
+use Rattle.sled_c.specs.Files.{IsRead}
+use Rattle.sled_c.specs.Handles.{FileLog}
+use Rattle.sled_c.specs.Numbers as number
+use Rattle.sled_c.specs.Numbers.{number_of_error}
+use Rattle.sled_c.specs.Rewriting.{GoesOnOver, IsAnswered, IsStarted, Rewrites, TellsRewritten, TellsStarted}
+use Rattle.sled_c.specs.declared.opening.Opening.{Opening}
+use Rattle.sled_c.specs.declared.store.Store.{Store}
+use Rattle.sled_c.specs.declared.store.Store.TheVariants.{Begun}
+
+module _ {L : Type 0} {g : Ghosts L} {file : Ghosts FileLog} {old left : Cache L} {opening : Opening} {given : FileLog} {answer : Result FileLog (Error × FileLog)}
+    (read : IsRead opening given) (is : IsAnswered g file old left given answer) (new : Cache L) (same : new ≡ left) (before after : Option Store) (from : before ≡ Some (Begun opening)) (status : ℕ) where
+  told : TellsRewritten opening.config answer after status → Rewrites g file old new before after status
+  told tells =
+      subst (λ (c : Cache L). Rewrites g file old c before after status) (sym same)
+      (subst (λ (b : Option Store). Rewrites g file old left b after status) (sym from) (inr (given, read, (answer, is, tells))))
+
+  pub told_done : (log : FileLog) (then : Opening) → answer ≡ Ok log → after ≡ Some (Begun then) → status ≡ number.ok → then.config ≡ opening.config → IsRead then log → Rewrites g file old new before after status
+  told_done log then ea et es ec has =
+      told (subst (λ (a : Result FileLog (Error × FileLog)). TellsRewritten opening.config a after status) (sym ea)
+      (subst (λ (t : Option Store). TellsRewritten opening.config (Ok log) t status) (sym et) (es, ec, has)))
+
+  pub told_refused : (e : Error × FileLog) → answer ≡ Err e → after ≡ None → status ≡ number_of_error e.0 → Rewrites g file old new before after status
+  told_refused e ea et es = told (subst (λ (a : Result FileLog (Error × FileLog)). TellsRewritten opening.config a after status) (sym ea) (es, et))
+
+module _ (config : Config) {answer : Result MemLog (Error × MemLog)} (old new : Cache MemLog) (status : ℕ) where
+  -- the rewriting was refused
+  pub stays_over : (e : Error × MemLog) → answer ≡ Err e → status ≡ number_of_error e.0 → new ≡ old → GoesOnOver config answer old new status
+  stays_over e ea es en = subst (λ (a : Result MemLog (Error × MemLog)). GoesOnOver config a old new status) (sym ea) (es, en)
+
+  -- a cache was opened over the log, or that was refused
+  goes_over : (log : MemLog) (opened : Result (Cache MemLog) (Error × MemLog)) → answer ≡ Ok log → IsStarted log config opened → TellsStarted opened old new status → GoesOnOver config answer old new status
+  goes_over log opened ea started tells = subst (λ (a : Result MemLog (Error × MemLog)). GoesOnOver config a old new status) (sym ea) (opened, started, tells)
+
+  pub opens_over : (log : MemLog) (opened : Result (Cache MemLog) (Error × MemLog)) → answer ≡ Ok log → IsStarted log config opened → opened ≡ Ok new → status ≡ number.ok → GoesOnOver config answer old new status
+  opens_over log opened ea started eo es =
+      goes_over log opened ea started (subst (λ (o : Result (Cache MemLog) (Error × MemLog)). TellsStarted o old new status) (sym eo) (es, refl))
+
+  pub stays_unopened : (log : MemLog) (opened : Result (Cache MemLog) (Error × MemLog)) (e : Error × MemLog) → answer ≡ Ok log → IsStarted log config opened → opened ≡ Err e → status ≡ number_of_error e.0 → new ≡ old
+      → GoesOnOver config answer old new status
+  stays_unopened log opened e ea started eo es en =
+      goes_over log opened ea started (subst (λ (o : Result (Cache MemLog) (Error × MemLog)). TellsStarted o old new status) (sym eo) (es, en))
