@@ -69,7 +69,7 @@ enum {
     DILLUVAS_PAGES_USED_UP = 105,      /* No page is free, and there are 2^37 of them. */
     DILLUVAS_IDS_USED_UP = 106,        /* No id is left below 2^64. */
     DILLUVAS_STAMP_USED_UP = 107,      /* The stamp of the page is 2^64 - 1. */
-    DILLUVAS_BATCH_OPEN = 108,         /* A batch is open: it takes no flush, no second pin, and no id that needs a new counter. */
+    DILLUVAS_BATCH_OPEN = 108,         /* A batch is open: it takes no flush, no second pin, no id that needs a new counter, and no rewriting. */
     DILLUVAS_TOO_MANY_NAMES = 109,     /* There are 2^24 other names. */
     DILLUVAS_NAME_TOO_LONG = 110,      /* The name has 2^31 bytes or more. */
     DILLUVAS_LOG_FULL = 111,           /* The log has no room for the message. */
@@ -139,6 +139,9 @@ typedef struct dilluvas_found {
 
 dilluvas_status dilluvas_raw_open_memory(dilluvas *d, const dilluvas_settings *settings);
 dilluvas_status dilluvas_raw_open_file(dilluvas *d, const dilluvas_file_settings *settings, uint64_t len);
+dilluvas_status dilluvas_raw_new_log(dilluvas *d, const dilluvas_file_settings *settings);
+dilluvas_status dilluvas_raw_rewrite(dilluvas *d, dilluvas *into);
+dilluvas_status dilluvas_raw_compact(dilluvas *d, const dilluvas_settings *settings);
 dilluvas_status dilluvas_raw_next_task(dilluvas *d, dilluvas_task *task, uint8_t *buffer, size_t room);
 dilluvas_status dilluvas_raw_needs(dilluvas *d, uint64_t *at, size_t *len);
 dilluvas_status dilluvas_raw_hand_in(dilluvas *d, uint64_t at, const uint8_t *bytes, size_t len);
@@ -430,6 +433,44 @@ static inline dilluvas_status dilluvas_gc(dilluvas *d, bool *moved) {
 static inline dilluvas_status dilluvas_was_recovered(dilluvas *d, bool *recovered) {
     if (!d || !recovered) return DILLUVAS_ARGUMENTS;
     return dilluvas_raw_was_recovered(d, recovered);
+}
+
+/* ---- Rewriting the log, which only grows: into another one, that has each page as one message. */
+
+/* Rewrites a cache in memory into a new log, and goes on over that, with these settings. What the old one took is freed.
+ *
+ * The cache is one that was opened over that log: the pages, the free ones and the roots are what they were, and each page has stamp 0. A
+ * stamp that was given before is let go, since a page may have it again with other pairs. An id that was given doesn't come again, where the
+ * interval isn't smaller than it was.
+ *
+ * Answers NOT_OVER_FILE, where dilluvas_file_compact of dilluvas_file.h does it; CAPACITY_TOO_SMALL, INTERVAL_ZERO or SEGMENT_ZERO for the
+ * settings; BATCH_OPEN; LOG_FULL, MEMORY. The cache goes on as it was then. */
+static inline dilluvas_status dilluvas_compact(dilluvas *d, const dilluvas_settings *settings) {
+    if (!d || !settings) return DILLUVAS_ARGUMENTS;
+    return dilluvas_raw_compact(d, settings);
+}
+
+/* Makes a new log in a file of no bytes, and opens no cache over it: dilluvas_rewrite puts pages there. It goes on at NEEDS, and over an
+ * opening that was begun, as dilluvas_open_file does, until the log was read.
+ *
+ * Answers as dilluvas_open_file does. At OK too the handle is that of a file that is being opened. */
+static inline dilluvas_status dilluvas_new_log(dilluvas *d, const dilluvas_file_settings *settings) {
+    if (!d || !settings) return DILLUVAS_ARGUMENTS;
+    return dilluvas_raw_new_log(d, settings);
+}
+
+/* Writes the pages of a cache to the log that dilluvas_new_log made behind the handle `into`, and makes them durable there once the tasks of
+ * that handle are done. The cache may be in memory. It stays as it is, and so do its own file, its pages and its stamps.
+ *
+ * At OK dilluvas_open_file opens a cache over the new log, with the settings that it was made with. Behind any other status but NOT_OPEN and
+ * ALREADY_OPEN `into` is closed: what would have been written to its file is let go. At NEEDS bytes of the cache's own file are needed, and
+ * the call is made again over a new log. It begins anew then, so as much is handed in at once as there is room for.
+ *
+ * Answers NOT_OPEN where one of the handles has no cache, or no new log; ALREADY_OPEN where `into` has a cache; NEEDS; BATCH_OPEN; MEMORY,
+ * READ, WRITE; CORRUPTION where a page can't be read, and no page is passed over; LOG_FULL. */
+static inline dilluvas_status dilluvas_rewrite(dilluvas *d, dilluvas *into) {
+    if (!d || !into || d == into) return DILLUVAS_ARGUMENTS;
+    return dilluvas_raw_rewrite(d, into);
 }
 
 /* ---- Pairs as bytes. */

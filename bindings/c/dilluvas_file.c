@@ -12,6 +12,7 @@
 enum {
     ROOM = 65536,      /* bytes of the buffer */
     LEAST_READ = 4096, /* so many are read at least: what a page's later messages need often stands near */
+    LEAST_PART = 4194304, /* so many bytes of the file are read together first as it is rewritten */
     MOST_TRIES = 100,  /* so often is a file opened again whose place another took meanwhile */
     OFFSETS_HAVE_64_BITS = 1 / (sizeof(off_t) >= 8)
 };
@@ -162,8 +163,10 @@ static dilluvas_status open_cache(dilluvas_file *file, const dilluvas_file_setti
     const dilluvas_file_settings usual = DILLUVAS_FILE_SETTINGS;
     dilluvas_status status;
     file->buffer = calloc(1, ROOM);
-    if (!file->buffer) return DILLUVAS_MEMORY;
-    DILLUVAS_FILE_CALL(file, status, dilluvas_open_file(&file->cache, settings ? settings : &usual, len));
+    file->path = calloc(1, PATH_MAX);
+    if (!file->buffer || !file->path) return DILLUVAS_MEMORY;
+    file->settings = settings ? *settings : usual;
+    DILLUVAS_FILE_CALL(file, status, dilluvas_open_file(&file->cache, &file->settings, len));
     return status;
 }
 
@@ -171,23 +174,36 @@ static dilluvas_status open_cache(dilluvas_file *file, const dilluvas_file_setti
 static void close_all(dilluvas_file *file) {
     dilluvas_close(&file->cache);
     free(file->buffer);
+    free(file->path);
     if (file->descriptor >= 0) {
         /* a process that is just being started has it open too */
         flock(file->descriptor, LOCK_UN);
         close(file->descriptor);
     }
     file->buffer = NULL;
+    file->path = NULL;
     file->descriptor = -1;
 }
 
-/* Gives a file the owner and the mode of an empty one whose place it takes. */
-static bool give_owner_and_mode(int descriptor, const struct stat *empty) {
+/* Gives a file the owner and the mode of the one whose place it takes. */
+static bool give_owner_and_mode(int descriptor, const struct stat *old) {
     struct stat found;
     if (fstat(descriptor, &found) != 0) return false;
-    bool is_theirs = found.st_uid == empty->st_uid && found.st_gid == empty->st_gid;
+    bool is_theirs = found.st_uid == old->st_uid && found.st_gid == old->st_gid;
     /* who may not give a file away keeps it */
-    if (!is_theirs && fchown(descriptor, empty->st_uid, empty->st_gid) != 0 && errno != EPERM) return false;
-    return fchmod(descriptor, empty->st_mode & 07777) == 0;
+    if (!is_theirs && fchown(descriptor, old->st_uid, old->st_gid) != 0 && errno != EPERM) return false;
+    return fchmod(descriptor, old->st_mode & 07777) == 0;
+}
+
+/* The name that a file has while it is made, or null where there is no memory. */
+static char *name_while_made(const char *path) {
+    static const char behind[] = ".dilluvas-new";
+    size_t len = strlen(path);
+    char *other = malloc(len + sizeof behind);
+    if (!other) return NULL;
+    memcpy(other, path, len);
+    memcpy(other + len, behind, sizeof behind);
+    return other;
 }
 
 /* Makes a file by another name, and gives it its own once it is durable. The other name is kept by one process at a time. */
@@ -208,17 +224,10 @@ static dilluvas_status make(dilluvas_file *file, const char *path, const char *o
 
 /* Makes a file, in place of an empty one if that is given. */
 static dilluvas_status make_new(dilluvas_file *file, const char *path, const struct stat *empty, const dilluvas_file_settings *settings) {
-    static const char behind[] = ".dilluvas-new";
-    size_t len = strlen(path);
     int folder = open_folder(path);
     if (folder < 0) return DILLUVAS_NO_ACCESS;
-    char *other = malloc(len + sizeof behind);
-    dilluvas_status status = DILLUVAS_MEMORY;
-    if (other) {
-        memcpy(other, path, len);
-        memcpy(other + len, behind, sizeof behind);
-        status = make(file, path, other, empty, settings);
-    }
+    char *other = name_while_made(path);
+    dilluvas_status status = other ? make(file, path, other, empty, settings) : DILLUVAS_MEMORY;
     if (status == DILLUVAS_OK && !sync_folder(folder)) status = DILLUVAS_WRITE;
     free(other);
     close(folder);
@@ -256,7 +265,106 @@ dilluvas_status dilluvas_file_open(dilluvas_file *file, const char *path, const 
     } else if (status == DILLUVAS_NONE) {
         status = make_absent(file, path, settings);
     }
-    if (status != DILLUVAS_OK) close_all(file);
+    if (status != DILLUVAS_OK) {
+        close_all(file);
+    } else if (!realpath(path, file->path)) {
+        /* it was taken away since */
+        file->path[0] = 0;
+    }
+    return status;
+}
+
+/* ---- Rewriting. */
+
+/* Hands in a part of the file, of so many bytes or more, in which the bytes lie that are needed. */
+static dilluvas_status read_part(dilluvas_file *file, uint64_t part) {
+    struct stat found;
+    uint64_t at = 0;
+    size_t len = 0, got = 0;
+    dilluvas_status status = dilluvas_needs(&file->cache, &at, &len);
+    if (status != DILLUVAS_OK) return status;
+    if (fstat(file->descriptor, &found) != 0) return DILLUVAS_READ;
+    uint64_t from = at - at % part, end = at + len < from + part ? from + part : at + len;
+    if (end > (uint64_t)found.st_size) end = (uint64_t)found.st_size;
+    if (end < at + len) return DILLUVAS_READ;
+    uint8_t *bytes = malloc((size_t)(end - from));
+    if (!bytes) return DILLUVAS_MEMORY;
+    if (!read_up_to(file->descriptor, bytes, (size_t)(end - from), from, &got) || from + got < at + len) status = DILLUVAS_READ;
+    else status = dilluvas_hand_in(&file->cache, from, bytes, got);
+    free(bytes);
+    return status;
+}
+
+/* Rewrites a cache into the log of a new file. That is begun anew where bytes of the old file are needed. Of these ever more are handed in
+ * together, so that it begins no more often than the file's length has digits. */
+static dilluvas_status rewrite(dilluvas_file *file, dilluvas_file *next) {
+    dilluvas_status status;
+    uint64_t part = LEAST_PART;
+    for (;;) {
+        DILLUVAS_FILE_CALL(next, status, dilluvas_new_log(&next->cache, &file->settings));
+        if (status == DILLUVAS_OK) status = dilluvas_rewrite(&file->cache, &next->cache);
+        if (status != DILLUVAS_NEEDS) break;
+        status = read_part(file, part);
+        /* what isn't needed may be unreadable */
+        if (status == DILLUVAS_READ) status = read_needed(file);
+        if (status != DILLUVAS_OK) break;
+        if (part < (uint64_t)1 << 40) part *= 4;
+    }
+    dilluvas_forget(&file->cache);
+    return status;
+}
+
+/* Makes the new file by its other name, and gives it the path of the old one. */
+static dilluvas_status make_compact(dilluvas_file *file, dilluvas_file *next, const char *other) {
+    struct stat old, found;
+    if (fstat(file->descriptor, &old) != 0) return DILLUVAS_READ;
+    dilluvas_status status = open_locked(other, O_CREAT | O_NOFOLLOW, &next->descriptor, &found);
+    if (status != DILLUVAS_OK) return status == DILLUVAS_NONE ? DILLUVAS_NO_ACCESS : status;
+    /* a process that was killed may have left bytes */
+    bool is_made = ftruncate(next->descriptor, 0) == 0 && give_owner_and_mode(next->descriptor, &old);
+    status = is_made ? rewrite(file, next) : DILLUVAS_WRITE;
+    if (status == DILLUVAS_OK) DILLUVAS_FILE_CALL(next, status, dilluvas_open_file(&next->cache, &file->settings, 0));
+    bool is_there = stat(file->path, &found) == 0 && are_one_file(&old, &found);
+    if (status == DILLUVAS_OK && (!is_there || rename(other, file->path) != 0)) status = DILLUVAS_NO_ACCESS;
+    if (status != DILLUVAS_OK) unlink(other);
+    return status;
+}
+
+/* Gives each of two the other's cache, with its file. */
+static void swap(dilluvas_file *one, dilluvas_file *other) {
+    dilluvas cache = one->cache;
+    int descriptor = one->descriptor;
+    one->cache = other->cache;
+    one->descriptor = other->descriptor;
+    other->cache = cache;
+    other->descriptor = descriptor;
+}
+
+dilluvas_status dilluvas_file_compact(dilluvas_file *file) {
+    dilluvas_file next = DILLUVAS_FILE_CLOSED;
+    if (!file) return DILLUVAS_ARGUMENTS;
+    if (!file->buffer) return DILLUVAS_NOT_OPEN;
+    uint64_t bytes;
+    dilluvas_status status;
+    DILLUVAS_FILE_CALL(file, status, dilluvas_size(&file->cache, &bytes));
+    if (status != DILLUVAS_OK) return status;
+    int folder = *file->path ? open_folder(file->path) : -1;
+    if (folder < 0) return DILLUVAS_NO_ACCESS;
+    char *other = name_while_made(file->path);
+    next.buffer = calloc(1, ROOM);
+    status = other && next.buffer ? make_compact(file, &next, other) : DILLUVAS_MEMORY;
+    if (status == DILLUVAS_OK) {
+        swap(file, &next);
+        if (!sync_folder(folder)) {
+            /* which of the two files a crash leaves isn't known, so nothing is written to this one */
+            dilluvas_failed(&file->cache);
+            status = DILLUVAS_WRITE;
+        }
+    }
+    /* the old file is unlocked once the path leads to the new one */
+    close_all(&next);
+    free(other);
+    close(folder);
     return status;
 }
 

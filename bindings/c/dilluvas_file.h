@@ -21,10 +21,12 @@ typedef struct dilluvas_file {
     dilluvas cache;
     int descriptor;
     uint8_t *buffer;
+    char *path;
+    dilluvas_file_settings settings;
 } dilluvas_file;
 
 /* One before its first call, and behind dilluvas_file_close. */
-#define DILLUVAS_FILE_CLOSED {DILLUVAS_CLOSED, -1, NULL}
+#define DILLUVAS_FILE_CLOSED {DILLUVAS_CLOSED, -1, NULL, NULL, {0, 0, 0}}
 
 /* Opens a cache over the file of a path, which is locked as by flock until it is closed. Null settings are DILLUVAS_FILE_SETTINGS. A file
  * that is absent or empty is made: with ".dilluvas-new" behind its name until it is whole and durable, so a crash leaves it whole or as it
@@ -43,6 +45,25 @@ bool dilluvas_file_again(dilluvas_file *file, dilluvas_status *status);
     do { \
         (status) = (call); \
     } while (dilluvas_file_again((file), &(status)))
+
+/* Rewrites the cache into a new file, which has each page as one message, and goes on over that: it takes the place of the file, with its
+ * owner and its mode, and is locked before it does, so at no moment the path leads to a file that another process may lock. Until then the
+ * new file has ".dilluvas-new" behind the name of the file, as one that is being made has. One that a process left there that was killed is
+ * made anew. Where this process is killed, or the power fails, the path leads to the old file or to the new one, with the same pages; all
+ * that was pending is durable in the new one.
+ *
+ * Other names of the file (hard links) stay with the old one. A link to the file leads to the new one.
+ *
+ * The cache is one that was opened over the new file: each page has stamp 0. A stamp that was given before is let go, since a page may have
+ * it again with other pairs. No id comes twice.
+ *
+ * It takes as much memory as the new file has bytes, and where pages aren't in memory up to three times as much as the old one has.
+ *
+ * Answers ARGUMENTS, NOT_OPEN; BATCH_OPEN; MEMORY, READ; CORRUPTION for a page that can't be read; LOG_FULL; NO_FILE and NO_ACCESS where the
+ * new file can't be made, or the path doesn't lead to the file by now; HELD where a process makes one by that name. The file and the cache
+ * are what they were then. So they are at WRITE too where the new file couldn't be written or synced. Where the folder couldn't be synced
+ * every later call answers WRITE: the new file is there, but a crash may bring back the old one. */
+dilluvas_status dilluvas_file_compact(dilluvas_file *file);
 
 /* Closes the cache and the file. Nothing is flushed.
  *

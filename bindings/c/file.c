@@ -3,82 +3,13 @@
  * and --wrap=fsync. Usage: file FOLDER, in which it makes its files. */
 #define _DEFAULT_SOURCE
 #include "dilluvas_file.h"
-#include <errno.h>
+#include "failing.h"
 #include <fcntl.h>
 #include <stdio.h>
 #include <stdlib.h>
 #include <sys/stat.h>
 #include <sys/wait.h>
 #include <unistd.h>
-
-static int failures;
-
-static void is(int line, unsigned long long got, unsigned long long wanted) {
-    if (got == wanted) return;
-    printf("line %d: %llu, not %llu\n", line, got, wanted);
-    failures++;
-}
-
-#define IS(got, wanted) is(__LINE__, (got), (wanted))
-#define TEXT(text) (const uint8_t *)(text), sizeof(text) - 1
-
-/* ---- The system. */
-
-enum kind { READS, WRITES, SYNCS, KINDS };
-
-/* How many calls of each kind were made, and before which one of a kind they begin to fail. */
-static long made[KINDS], fails_at[KINDS] = {-1, -1, -1};
-static bool lasting;
-
-static bool fails(enum kind kind) {
-    long n = made[kind]++;
-    if (fails_at[kind] < 0 || n < fails_at[kind] || (n > fails_at[kind] && !lasting)) return false;
-    errno = EIO;
-    return true;
-}
-
-/* Every third call is interrupted, and of the others every second one does a part. */
-static unsigned turn;
-
-static bool is_interrupted(void) {
-    if (++turn % 3) return false;
-    errno = EINTR;
-    return true;
-}
-
-static size_t cut(size_t len) {
-    return turn % 2 && len > 1 ? len / 2 : len;
-}
-
-ssize_t __real_pread(int descriptor, void *bytes, size_t len, off_t at);
-ssize_t __real_pwrite(int descriptor, const void *bytes, size_t len, off_t at);
-int __real_fdatasync(int descriptor);
-int __real_fsync(int descriptor);
-
-ssize_t __wrap_pread(int descriptor, void *bytes, size_t len, off_t at) {
-    if (is_interrupted() || fails(READS)) return -1;
-    return __real_pread(descriptor, bytes, cut(len), at);
-}
-
-ssize_t __wrap_pwrite(int descriptor, const void *bytes, size_t len, off_t at) {
-    if (is_interrupted() || fails(WRITES)) return -1;
-    return __real_pwrite(descriptor, bytes, cut(len), at);
-}
-
-int __wrap_fdatasync(int descriptor) {
-    return fails(SYNCS) ? -1 : __real_fdatasync(descriptor);
-}
-
-int __wrap_fsync(int descriptor) {
-    return fails(SYNCS) ? -1 : __real_fsync(descriptor);
-}
-
-static void all_goes_well(void) {
-    for (int kind = 0; kind < KINDS; kind++) {
-        made[kind] = 0;
-        fails_at[kind] = -1;
-    }
-}
 
 /* ---- Files. */
 

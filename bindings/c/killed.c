@@ -1,5 +1,6 @@
-/* Kills a process that writes a file, at a random moment, and opens the file again: what was said to be flushed is there, of a batch all or
- * nothing, and no id comes twice. Usage: killed FOLDER TIMES, in which it makes its file. */
+/* Kills a process that writes a file and rewrites it, at a random moment, and opens the file again: what was said to be flushed is there, of a
+ * batch all or nothing, and no id comes twice. In a rewriting the process often ends itself, before or behind a call of the system. Linked
+ * with --wrap=pwrite, --wrap=fdatasync, --wrap=fsync and --wrap=rename. Usage: killed FOLDER TIMES, in which it makes its file. */
 #define _DEFAULT_SOURCE
 #include "dilluvas_file.h"
 #include <signal.h>
@@ -24,10 +25,51 @@ static const dilluvas_file_settings settings = {1024, 10, 2048};
 
 static char path[4096];
 
-/* What a process says once a round is flushed. */
+/* What a process says once a round is flushed; or, where the round is 0, before which call of a rewriting it ends. */
 typedef struct told {
     uint64_t round, id;
 } told;
+
+/* ---- The system. */
+
+enum call { WRITE, SYNC, RENAME, SYNC_FOLDER, END, CALLS };
+
+/* Where a process says what it does, while it rewrites the file. */
+static int teller = -1;
+
+static void may_end(enum call call) {
+    if (teller < 0 || rand() % 16) return;
+    told last = {0, call};
+    CHECK(write(teller, &last, sizeof last) == sizeof last);
+    kill(getpid(), SIGKILL);
+}
+
+ssize_t __real_pwrite(int descriptor, const void *bytes, size_t len, off_t at);
+int __real_fdatasync(int descriptor);
+int __real_fsync(int descriptor);
+int __real_rename(const char *old, const char *new);
+
+ssize_t __wrap_pwrite(int descriptor, const void *bytes, size_t len, off_t at) {
+    may_end(WRITE);
+    return __real_pwrite(descriptor, bytes, len, at);
+}
+
+int __wrap_fdatasync(int descriptor) {
+    may_end(SYNC);
+    return __real_fdatasync(descriptor);
+}
+
+int __wrap_fsync(int descriptor) {
+    may_end(SYNC_FOLDER);
+    return __real_fsync(descriptor);
+}
+
+int __wrap_rename(const char *old, const char *new) {
+    may_end(RENAME);
+    return __real_rename(old, new);
+}
+
+/* ---- The process. */
 
 static dilluvas_status get_round(dilluvas_file *file, uint64_t page, uint64_t *stamp, uint64_t *round) {
     dilluvas_status status;
@@ -77,6 +119,12 @@ static void write_rounds(int to) {
         if (round < found) round = found;
     }
     for (;;) {
+        if (round % 3 == 0) {
+            teller = to;
+            CHECK(dilluvas_file_compact(&file) == DILLUVAS_OK);
+            may_end(END);
+            teller = -1;
+        }
         told told = {++round, 0};
         DILLUVAS_FILE_CALL(&file, status, dilluvas_generate_id(&file.cache, &told.id));
         CHECK(status == DILLUVAS_OK);
@@ -84,6 +132,9 @@ static void write_rounds(int to) {
         if (write(to, &told, sizeof told) != sizeof told) exit(0);
     }
 }
+
+/* Before each call, how many processes ended in a rewriting. */
+static unsigned long ended[CALLS];
 
 /* Lets a process write for a while, kills it, and takes what it told last. */
 static void kill_one(told *last, unsigned long *rounds) {
@@ -95,6 +146,7 @@ static void kill_one(told *last, unsigned long *rounds) {
     CHECK(child >= 0);
     if (child == 0) {
         close(ends[0]);
+        srand((unsigned)getpid());
         write_rounds(ends[1]);
     }
     close(ends[1]);
@@ -103,6 +155,10 @@ static void kill_one(told *last, unsigned long *rounds) {
     kill(child, SIGKILL);
     CHECK(waitpid(child, &status, 0) == child && WIFSIGNALED(status) && WTERMSIG(status) == SIGKILL);
     while (read(ends[0], &told, sizeof told) == sizeof told) {
+        if (told.round == 0) {
+            ended[told.id]++;
+            break;
+        }
         CHECK(*rounds == 0 || told.id > id_before);
         *last = told;
         ++*rounds;
@@ -140,6 +196,8 @@ int main(int count, char **arguments) {
         compare(&last);
     }
     unlink(path);
-    printf("%d kills: none of %lu flushed rounds was lost\n", times, rounds);
+    printf("%d kills: none of %lu flushed rounds was lost; in a rewriting %lu before a write, %lu before a sync, %lu before the new name, %lu "
+           "before that was durable, and %lu behind it\n", times, rounds, ended[WRITE], ended[SYNC], ended[RENAME], ended[SYNC_FOLDER], ended[END]);
+    CHECK(times < 200 || (ended[WRITE] && ended[SYNC] && ended[RENAME] && ended[SYNC_FOLDER]));
     return 0;
 }

@@ -94,6 +94,8 @@ static void run(void) {
     CALL(dilluvas_seal(&d));
     CALL(dilluvas_flush(&d, &size));
     CALL(dilluvas_size(&d, &n));
+    CALL(dilluvas_compact(&d, &settings));
+    CALL(dilluvas_root(&d, (const uint8_t *)"other", 5, &n));
     CALL(dilluvas_close(&d));
 }
 
@@ -131,6 +133,7 @@ static void run_over_file(void) {
     FILE_CALL(dilluvas_flush(&file.cache, &size));
     CALL(dilluvas_file_close(&file));
     CALL(dilluvas_file_open(&file, path, &settings));
+    CALL(dilluvas_file_compact(&file));
     FILE_CALL(dilluvas_get(&file.cache, page, &found, buffer, sizeof buffer));
     FILE_CALL(dilluvas_open_tree(&file.cache, bytes, 50, &n));
     FILE_CALL(dilluvas_del(&file.cache, page, &found.stamp, bytes, 1));
