@@ -3,6 +3,7 @@
 mod log;
 mod names;
 mod pages;
+mod rewriting;
 
 use crate::device::{Attached, Device};
 use crate::error::Error;
@@ -30,6 +31,14 @@ pub struct Cache {
     // it is closed before the device is
     handle: sys::Handle,
     attached: Option<Attached>,
+    place: Place,
+}
+
+// Where a cache lies, and with which settings: what a new log for it is made from.
+enum Place {
+    Memory(Settings),
+    Device(FileSettings),
+    File(FileSettings, file::Place),
 }
 
 impl Cache {
@@ -54,6 +63,7 @@ impl Cache {
         Ok(Cache {
             handle,
             attached: None,
+            place: Place::Memory(*settings),
         })
     }
 
@@ -88,7 +98,10 @@ impl Cache {
     /// the file holds is as it was then. [`Write`](Error::Write) comes too where the file was made and its folder could not be synced: a
     /// crash may take it away again.
     pub fn open(path: impl AsRef<Path>, settings: &FileSettings) -> Result<Cache, Error> {
-        file::open_or_make(path.as_ref(), |file| Cache::on_device(file, settings))
+        let (mut cache, place) =
+            file::open_or_make(path.as_ref(), |file| Cache::on_device(file, settings))?;
+        cache.place = Place::File(*settings, place);
+        Ok(cache)
     }
 
     /// Opens a cache over a device, of which one of no bytes is given an empty log. Nobody else writes to it.
@@ -155,6 +168,7 @@ impl Cache {
         let mut cache = Cache {
             handle: sys::Handle::CLOSED,
             attached: Some(attached),
+            place: Place::Device(*settings),
         };
         done(cache.on(|handle| handle.open_file(settings, len)))?;
         Ok(cache)

@@ -73,6 +73,16 @@ impl Attached {
 
     /// Does what the library wants behind a call that answered so: the answer, or none where the call is to be made again.
     pub(crate) fn settle(&mut self, handle: &mut sys::Handle, status: u32) -> Option<u32> {
+        self.settle_in_parts(handle, status, 1)
+    }
+
+    /// The same for a call that reads much: what it needs is handed in with all that lies in the same part of so many bytes.
+    pub(crate) fn settle_in_parts(
+        &mut self,
+        handle: &mut sys::Handle,
+        status: u32,
+        part: u64,
+    ) -> Option<u32> {
         // it stays so where the device panics
         let had_failed = mem::replace(&mut self.has_failed, true);
         if had_failed || self.do_tasks(handle).is_err() {
@@ -80,7 +90,7 @@ impl Attached {
             return Some(sys::WRITE);
         }
         let answer = match status {
-            sys::NEEDS => self.answer_needs(handle),
+            sys::NEEDS => self.answer_needs(handle, part),
             status => Some(status),
         };
         self.has_failed = false;
@@ -103,8 +113,8 @@ impl Attached {
         }
     }
 
-    fn answer_needs(&mut self, handle: &mut sys::Handle) -> Option<u32> {
-        match self.read_needed(handle) {
+    fn answer_needs(&mut self, handle: &mut sys::Handle, part: u64) -> Option<u32> {
+        match self.read_needed(handle, part) {
             sys::OK => None,
             refused => {
                 handle.forget();
@@ -114,18 +124,41 @@ impl Attached {
     }
 
     // Reads what is needed and hands it in, and more where that can be read too.
-    fn read_needed(&mut self, handle: &mut sys::Handle) -> u32 {
+    fn read_needed(&mut self, handle: &mut sys::Handle, part: u64) -> u32 {
         let (mut at, mut len) = (0, 0);
         let status = handle.needs(&mut at, &mut len);
         if status != sys::OK {
             return status;
         }
         let end = at.saturating_add(len as u64);
+        if part > 1 {
+            let from = at - at % part;
+            let more = self.end.min(from.saturating_add(part)).max(end);
+            match self.hand_in_one(handle, from, more) {
+                // what isn't needed may be unreadable
+                sys::READ => {}
+                answer => return answer,
+            }
+        }
         let more = self.end.min(at.saturating_add(LEAST_READ));
         if end < more && self.hand_in(handle, at, more) == sys::OK {
             return sys::OK;
         }
         self.hand_in(handle, at, end)
+    }
+
+    // Reads the bytes between two places and hands them in as one piece: the library looks for what it reads among the pieces.
+    fn hand_in_one(&mut self, handle: &mut sys::Handle, from: u64, to: u64) -> u32 {
+        let mut piece = Vec::new();
+        let len = usize::try_from(to - from).unwrap_or(usize::MAX);
+        if piece.try_reserve_exact(len).is_err() {
+            return sys::MEMORY;
+        }
+        piece.resize(len, 0);
+        match self.device.read_at(from, &mut piece) {
+            Ok(()) => handle.hand_in(from, &piece),
+            Err(_) => sys::READ,
+        }
     }
 
     // Reads the bytes between two places and hands them in, piece by piece.

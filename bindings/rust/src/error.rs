@@ -62,7 +62,7 @@ pub enum Error {
     IdsUsedUp,
     /// The stamp of the page is the greatest.
     StampUsedUp,
-    /// A batch is open: it takes no flush, no second pin, and no id that needs a new counter.
+    /// A batch is open: it takes no flush, no second pin, no id that needs a new counter, and no rewriting.
     BatchOpen,
     /// There are 2^24 other names.
     TooManyNames,

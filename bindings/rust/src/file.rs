@@ -44,9 +44,33 @@ impl Drop for Locked {
     }
 }
 
+/// Where a file lies that is locked.
+#[derive(Clone)]
+pub(crate) struct Place {
+    file: Locked,
+    // with no link in it; none where the file was taken away
+    path: Option<PathBuf>,
+}
+
 /// Opens and locks the file of a path, or makes it where it is absent or empty: then `open` is given it with no bytes, and it has its name
 /// once that has succeeded.
 pub(crate) fn open_or_make<T>(
+    path: &Path,
+    open: impl FnOnce(Locked) -> Result<T, Error>,
+) -> Result<(T, Place), Error> {
+    let mut locked = None;
+    let opened = open_or_make_locked(path, |file| {
+        locked = Some(file.clone());
+        open(file)
+    })?;
+    let place = Place {
+        file: locked.expect("it was opened"),
+        path: fs::canonicalize(path).ok(),
+    };
+    Ok((opened, place))
+}
+
+fn open_or_make_locked<T>(
     path: &Path,
     open: impl FnOnce(Locked) -> Result<T, Error>,
 ) -> Result<T, Error> {
@@ -180,17 +204,77 @@ fn make_over<T>(
     Ok(opened)
 }
 
-// Gives a file the owner and the mode of an empty one whose place it takes.
-fn give_owner_and_mode(file: &File, empty: &Metadata) -> io::Result<()> {
+/// A file that took the place of another, whose name isn't durable until its folder is synced.
+pub(crate) struct Replaced<T> {
+    pub(crate) opened: T,
+    pub(crate) place: Place,
+    pub(crate) folder: Folder,
+}
+
+/// A folder.
+pub(crate) struct Folder(File);
+
+impl Folder {
+    /// Makes durable which files it has.
+    pub(crate) fn sync(&self) -> Result<(), Error> {
+        sync_folder(&self.0)
+    }
+}
+
+/// Makes a file in the place of one: `open` is given it with no bytes, and it has its name once that has succeeded. Both are locked
+/// meanwhile.
+pub(crate) fn replace<T>(
+    place: &Place,
+    open: impl FnOnce(Locked) -> Result<T, Error>,
+) -> Result<Replaced<T>, Error> {
+    let path = place.path.as_deref().ok_or(Error::NoAccess)?;
+    let folder = File::open(folder_of(path)).map_err(|_| Error::NoAccess)?;
+    let other = name_while_made(path);
+    let file = open_new(&other)?;
+    let made = make_instead(path, &other, &place.file, file.clone(), open);
+    if made.is_err() {
+        let _ = fs::remove_file(&other);
+    }
+    Ok(Replaced {
+        opened: made?,
+        place: Place {
+            file,
+            path: place.path.clone(),
+        },
+        folder: Folder(folder),
+    })
+}
+
+fn make_instead<T>(
+    path: &Path,
+    other: &Path,
+    old: &Locked,
+    file: Locked,
+    open: impl FnOnce(Locked) -> Result<T, Error>,
+) -> Result<T, Error> {
+    let found = old.0.metadata().map_err(|_| Error::Read)?;
+    // a process that was killed may have left bytes
+    file.0.set_len(0).map_err(|_| Error::Write)?;
+    give_owner_and_mode(&file.0, &found).map_err(|_| Error::Write)?;
+    let opened = open(file)?;
+    if !fs::metadata(path).is_ok_and(|present| are_one_file(&present, &found)) {
+        return Err(Error::NoAccess);
+    }
+    fs::rename(other, path).map_err(|_| Error::NoAccess)?;
+    Ok(opened)
+}
+
+// Gives a file the owner and the mode of the one whose place it takes.
+fn give_owner_and_mode(file: &File, old: &Metadata) -> io::Result<()> {
     let found = file.metadata()?;
-    if (found.uid(), found.gid()) != (empty.uid(), empty.gid()) {
-        match fchown(file, Some(empty.uid()), Some(empty.gid())) {
+    if (found.uid(), found.gid()) != (old.uid(), old.gid()) {
+        match fchown(file, Some(old.uid()), Some(old.gid())) {
             // who may not give a file away keeps it
             Err(error) if error.kind() == ErrorKind::PermissionDenied => {}
             done => done?,
         }
     }
-    file.set_permissions(empty.permissions())
+    file.set_permissions(old.permissions())
 }
 
 fn name_while_made(path: &Path) -> PathBuf {

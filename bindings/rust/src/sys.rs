@@ -12,6 +12,7 @@ pub const STALE: u32 = 1;
 pub const GONE: u32 = 2;
 pub const NONE: u32 = 3;
 pub const SHORT: u32 = 4;
+pub const MEMORY: u32 = 16;
 pub const READ: u32 = 17;
 pub const WRITE: u32 = 18;
 pub const NEEDS: u32 = 20;
@@ -54,6 +55,9 @@ pub struct Found {
 unsafe extern "C" {
     fn dilluvas_raw_open_memory(d: *mut Handle, settings: *const Settings) -> u32;
     fn dilluvas_raw_open_file(d: *mut Handle, settings: *const FileSettings, len: u64) -> u32;
+    fn dilluvas_raw_new_log(d: *mut Handle, settings: *const FileSettings) -> u32;
+    fn dilluvas_raw_rewrite(d: *mut Handle, into: *mut Handle) -> u32;
+    fn dilluvas_raw_compact(d: *mut Handle, settings: *const Settings) -> u32;
     fn dilluvas_raw_next_task(d: *mut Handle, task: *mut Task, buffer: *mut u8, room: usize) -> u32;
     fn dilluvas_raw_needs(d: *mut Handle, at: *mut u64, len: *mut usize) -> u32;
     fn dilluvas_raw_hand_in(d: *mut Handle, at: u64, bytes: *const u8, len: usize) -> u32;
@@ -104,6 +108,18 @@ impl Handle {
 
     pub fn open_file(&mut self, settings: &FileSettings, len: u64) -> u32 {
         unsafe { dilluvas_raw_open_file(self, settings, len) }
+    }
+
+    pub fn new_log(&mut self, settings: &FileSettings) -> u32 {
+        unsafe { dilluvas_raw_new_log(self, settings) }
+    }
+
+    pub fn rewrite(&mut self, into: &mut Handle) -> u32 {
+        unsafe { dilluvas_raw_rewrite(self, into) }
+    }
+
+    pub fn compact(&mut self, settings: &Settings) -> u32 {
+        unsafe { dilluvas_raw_compact(self, settings) }
     }
 
     pub fn next_task(&mut self, task: &mut Task, buffer: &mut [u8]) -> u32 {

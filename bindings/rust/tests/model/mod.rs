@@ -54,6 +54,7 @@ pub enum Change {
     Seal,
     Cancel,
     Flush,
+    Compact,
 }
 
 /// What one change changes.
@@ -95,7 +96,8 @@ impl Model {
             16..18 => Change::Set(page, seed.key(), seed.value()),
             18 if is_batch => Change::Cancel,
             _ if is_batch => Change::Seal,
-            _ => Change::Flush,
+            18 => Change::Flush,
+            _ => Change::Compact,
         }
     }
 
@@ -152,7 +154,7 @@ pub type History = Vec<(Change, Option<u64>)>;
 /// which has all that was flushed and no batch in part.
 pub fn is_permitted(start: &Model, history: &History, found: &Model) -> bool {
     let flushed = |(change, answer): &(Change, Option<u64>)| {
-        matches!(change, Change::Flush) && answer.is_some()
+        matches!(change, Change::Flush | Change::Compact) && answer.is_some()
     };
     let least = history.iter().rposition(flushed).map_or(0, |at| at + 1);
     let parts = parts_of_batches(history);

@@ -120,6 +120,16 @@ impl<T: Told> Run<T> {
         self.told.answered(answer);
     }
 
+    // A file is rewritten, and of another device all is flushed.
+    fn compact(&mut self, cache: &mut Cache) -> Result<u64, Error> {
+        match cache.compact() {
+            Err(Error::NoFile) => return cache.flush().map(|_| 0),
+            done => done?,
+        }
+        self.tokens.clear();
+        Ok(0)
+    }
+
     // The page of one that was allocated, the id that was generated, or 0.
     fn call(&mut self, cache: &mut Cache, change: &Change) -> Result<u64, Error> {
         let token_of = |page: &u64| self.tokens.get(page).copied().unwrap_or(unread(*page));
@@ -142,6 +152,7 @@ impl<T: Told> Run<T> {
             }
             Change::GenerateId => return cache.generate_id(),
             Change::Flush => return cache.flush().map(|_| 0),
+            Change::Compact => return self.compact(cache),
             Change::Pin | Change::Seal | Change::Cancel => unreachable!("made by a batch"),
         };
         let (Swap::Done(token) | Swap::Stale(token)) = swap else {
@@ -158,7 +169,7 @@ impl<T: Told> Run<T> {
     }
 }
 
-// What a page never has, and so is told the present one.
+// What a page has that was opened, or never: then it is told the present one.
 fn unread(page: u64) -> Token {
     Token { page, stamp: 0 }
 }
