@@ -16,7 +16,13 @@ _HOOK = ctypes.CFUNCTYPE(c_int64, c_int, c_int, c_void_p, c_size_t, c_int64)
 
 
 class _File(ctypes.Structure):
-    _fields_ = [("cache", _Handle), ("descriptor", c_int), ("buffer", c_void_p)]
+    _fields_ = [
+        ("cache", _Handle),
+        ("descriptor", c_int),
+        ("buffer", c_void_p),
+        ("path", c_void_p),
+        ("settings", _FileSettings),
+    ]
 
 
 def is_there():
@@ -30,6 +36,7 @@ def _load():
     for name, parameters, result in (
         ("open", (POINTER(_File), c_char_p, POINTER(_FileSettings)), c_uint32),
         ("again", (POINTER(_File), POINTER(c_uint32)), c_bool),
+        ("compact", (POINTER(_File),), c_uint32),
         ("close", (POINTER(_File),), c_uint32),
     ):
         function = getattr(_LIBRARY, "dilluvas_file_" + name)
@@ -108,6 +115,12 @@ class CFileCache(Cache):
             self._tell_power(was_off)
             if not again:
                 return status.value
+
+    def compact(self):
+        was_off = self._loop.system.is_off
+        status = _LIBRARY.dilluvas_file_compact(byref(self._file))
+        self._tell_power(was_off)
+        _check(status)
 
     def close(self):
         _LIBRARY.dilluvas_file_close(byref(self._file))

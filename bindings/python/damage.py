@@ -1,5 +1,7 @@
 """Damages a file: it opens or is refused, nothing hangs, and each page is what its records make, or is told as damaged."""
 
+import os
+
 import judge
 from dilluvas import OK, Refused
 from judge import answer_of, check
@@ -69,6 +71,7 @@ class Script(judge.Script):
             check(opens, "a file is opened that no cache wrote")
             pages = self._shows(cache, chains)
             self._use(cache, pages)
+            self._compact_damaged(cache, pages)
         with self.open_cache(self.path) as cache:
             for page, content in pages.items():
                 check(self._shown(cache, page) == content, "a page has changed", page)
@@ -106,3 +109,14 @@ class Script(judge.Script):
         pages[page] = Node(False, tuple(put))
         answer_of(cache, "generate_id", ())
         cache.flush()
+
+    def _compact_damaged(self, cache, pages):
+        """A file with a damaged page isn't rewritten, and the pages are the same in either case."""
+        is_damaged = CORRUPTION in pages.values()
+        wanted = CORRUPTION if is_damaged else OK
+        before = os.stat(self.path).st_ino
+        check(answer_of(cache, "compact", ()) == (wanted, None), "compact", wanted)
+        check((os.stat(self.path).st_ino == before) == is_damaged, "another file")
+        for page, content in pages.items():
+            check(self._shown(cache, page) == content, "a page has changed", page)
+        self.counts["damaged files rewritten"] += not is_damaged

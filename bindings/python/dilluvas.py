@@ -18,7 +18,7 @@ from ctypes import POINTER, byref, c_bool, c_char_p, c_size_t, c_uint32, c_uint6
 from typing import NamedTuple
 
 OK, STALE, GONE, NONE, SHORT = range(5)
-READ, WRITE, NEEDS = 17, 18, 20
+MEMORY, READ, WRITE, NEEDS = 16, 17, 18, 20
 NO_FILE, NO_ACCESS, HELD = 32, 33, 34
 _RESERVED_ID = 101
 
@@ -57,6 +57,9 @@ _BUFFER = (c_void_p, c_size_t)
 _CALLS = {
     "open_memory": (_HANDLE, POINTER(_Settings)),
     "open_file": (_HANDLE, POINTER(_FileSettings), c_uint64),
+    "new_log": (_HANDLE, POINTER(_FileSettings)),
+    "rewrite": (_HANDLE, _HANDLE),
+    "compact": (_HANDLE, POINTER(_Settings)),
     "next_task": (_HANDLE, POINTER(_Task), *_BUFFER),
     "needs": (_HANDLE, _NUMBER, _SIZE),
     "hand_in": (_HANDLE, c_uint64, *_BYTES),
@@ -187,8 +190,8 @@ class Cache:
 
     def __init__(self, capacity=1 << 20, interval=10, segment_size=4096, blob_limit=512, clean_every=16):
         self._handle = _Handle()
-        settings = _Settings(*map(_number, (capacity, interval, segment_size, blob_limit, clean_every)))
-        self._do("open_memory", byref(settings))
+        self._settings = _Settings(*map(_number, (capacity, interval, segment_size, blob_limit, clean_every)))
+        self._do("open_memory", byref(self._settings))
 
     def __enter__(self):
         return self
@@ -330,6 +333,14 @@ class Cache:
         moved = c_bool()
         self._do("gc", byref(moved))
         return moved.value
+
+    def compact(self):
+        """Rewrites the cache into a new log, which has each page as one message, and goes on over that: a log only grows else.
+
+        The cache is one that was opened over the new log: each page has stamp 0. A stamp that was given before is let go, since a page may
+        have it again with other pairs. No id comes twice.
+        """
+        self._do("compact", byref(self._settings))
 
     def was_recovered(self):
         """Whether the log had the cache's own pages as it was opened."""

@@ -13,13 +13,18 @@ import os
 import stat
 from ctypes import byref, c_size_t, c_uint64
 
-from dilluvas import HELD, NEEDS, NO_ACCESS, NO_FILE, OK, READ, WRITE, Cache, Refused, _FileSettings, _Handle, _number, _Task
+from dilluvas import (
+    HELD, MEMORY, NEEDS, NO_ACCESS, NO_FILE, OK, READ, WRITE, Cache, Refused, _check, _FileSettings, _Handle, _number, _Task,
+)  # fmt: skip
 
 # The kinds of a task.
 _NOTHING, _WRITE_BYTES, _SYNC = range(3)
 
 # So many bytes are written at a time, and so many read at least: what a page's later messages need often stands near.
 _ROOM, _LEAST_READ = 65536, 4096
+
+# So many bytes of the file are read together first as it is rewritten.
+_LEAST_PART = 1 << 22
 
 # So often is a file opened again whose place another took meanwhile.
 _MOST_TRIES = 100
@@ -34,9 +39,8 @@ class FileCache(Cache):
     """
 
     def __init__(self, path, capacity=1 << 20, interval=10, segment_size=1 << 20):
-        self._handle, self._descriptor = _Handle(), -1
-        self._room = ctypes.create_string_buffer(_ROOM)
-        settings = _FileSettings(_number(capacity), _number(interval), _number(segment_size))
+        self._begin()
+        settings = self._settings = _FileSettings(_number(capacity), _number(interval), _number(segment_size))
         path = os.fspath(path)
         descriptor = _open_locked(path, 0)
         try:
@@ -48,6 +52,7 @@ class FileCache(Cache):
             else:
                 # while the file is made, an empty one stays locked
                 self._make(_name_of_new(path), found, settings)
+            self._path = os.path.realpath(path)
         except BaseException:
             self.close()
             raise
@@ -55,12 +60,16 @@ class FileCache(Cache):
             if descriptor is not None:
                 os.close(descriptor)
 
+    def _begin(self):
+        self._handle, self._descriptor, self._path = _Handle(), -1, None
+        self._room = ctypes.create_string_buffer(_ROOM)
+
     def _open(self, settings, length):
         self._do("open_file", byref(settings), length)
 
     # Makes a file by another name, and gives it its own once it is durable. It takes the place of an empty one, if that was found.
     def _make(self, path, empty, settings):
-        other = path + (b".dilluvas-new" if isinstance(path, bytes) else ".dilluvas-new")
+        other = _name_while_made(path)
         with _told_as(NO_ACCESS):
             folder = _open_folder(path)
         try:
@@ -88,6 +97,94 @@ class FileCache(Cache):
         except BaseException:
             os.unlink(other)
             raise
+
+    def compact(self):
+        """Rewrites the cache into a new file, which has each page as one message, and goes on over that.
+
+        It takes the place of the file, with its owner and its mode, and is locked before it does. Until then it has ".dilluvas-new" behind
+        the name of the file; one that a process left there that was killed is made anew. Where this process is killed, the path leads to the
+        old file or to the new one, with the same pages. Other names of the file (hard links) stay with the old one.
+
+        The cache is one that was opened over the new file: each page has stamp 0. A stamp that was given before is let go, since a page may
+        have it again with other pairs. No id comes twice.
+
+        Where it is refused the file and the cache are as they were. But where the folder couldn't be synced every later call is refused: the
+        new file is there, and a crash may bring back the old one.
+        """
+        self._do("size", byref(c_uint64()))
+        if self._path is None:
+            raise Refused(NO_ACCESS)
+        with _told_as(NO_ACCESS):
+            folder = _open_folder(self._path)
+        try:
+            with contextlib.closing(FileCache.__new__(FileCache)) as new:
+                new._begin()
+                self._compact_by(_name_while_made(self._path), new)
+                # what is closed now is the old one: it is unlocked once the path leads to the new one
+                self._handle, new._handle = new._handle, self._handle
+                self._descriptor, new._descriptor = new._descriptor, self._descriptor
+            try:
+                _sync_folder(folder)
+            except Refused:
+                # which of the two files a crash leaves isn't known, so nothing is written to this one
+                super()._ask("failed")
+                raise
+        finally:
+            os.close(folder)
+
+    # Makes the new file by its other name, and gives it the path of the old one.
+    def _compact_by(self, other, new):
+        descriptor = _open_locked(other, os.O_CREAT | os.O_NOFOLLOW)
+        if descriptor is None:
+            raise Refused(NO_ACCESS)
+        new._descriptor = descriptor
+        try:
+            with _told_as(WRITE):
+                # a process that was killed may have left bytes
+                os.ftruncate(descriptor, 0)
+                old = os.fstat(self._descriptor)
+                _give_owner_and_mode(descriptor, old)
+            self._rewrite_into(new)
+            new._open(self._settings, 0)
+            with _told_as(NO_ACCESS):
+                if not os.path.samestat(old, os.stat(self._path)):
+                    raise Refused(NO_ACCESS)
+                os.rename(other, self._path)
+        except BaseException:
+            os.unlink(other)
+            raise
+
+    # Rewrites the cache into the log of a new file. That is begun anew where bytes of the old file are needed. Of these ever more are handed
+    # in together, so that it begins no more often than the file's length has digits.
+    def _rewrite_into(self, new):
+        part = _LEAST_PART
+        try:
+            while True:
+                new._do("new_log", byref(self._settings))
+                status = super()._ask("rewrite", byref(new._handle))
+                if status != NEEDS:
+                    _check(status)
+                    return
+                _check(self._read_part(part))
+                part *= 4
+        finally:
+            super()._ask("forget")
+
+    # Hands in the part of the file, of so many bytes or more, in which the bytes lie that are needed, or these alone.
+    def _read_part(self, part):
+        at, size = c_uint64(), c_size_t()
+        status = super()._ask("needs", byref(at), byref(size))
+        if status != OK:
+            return status
+        start = at.value - at.value % part
+        try:
+            data = _read(self._descriptor, start, max(part, at.value + size.value - start))
+        except MemoryError:
+            return MEMORY
+        if start + len(data) < at.value + size.value:
+            # what isn't needed may be unreadable
+            return self._read_needed()
+        return super()._ask("hand_in", start, data, len(data))
 
     def close(self):
         """Closes the cache and its file. Closing it again does nothing."""
@@ -135,18 +232,12 @@ class FileCache(Cache):
     def _read_needed(self):
         at, size = c_uint64(), c_size_t()
         status = super()._ask("needs", byref(at), byref(size))
-        wanted, data = max(size.value, _LEAST_READ), b""
-        while status == OK and len(data) < wanted:
-            try:
-                read = os.pread(self._descriptor, wanted - len(data), at.value + len(data))
-            except OSError:
-                break
-            if not read:
-                break
-            data += read
-        if status == OK and len(data) < size.value:
+        if status != OK:
+            return status
+        data = _read(self._descriptor, at.value, max(size.value, _LEAST_READ))
+        if len(data) < size.value:
             return READ
-        return status or super()._ask("hand_in", at, data, len(data))
+        return super()._ask("hand_in", at, data, len(data))
 
 
 @contextlib.contextmanager
@@ -156,6 +247,26 @@ def _told_as(status):
         yield
     except OSError as error:
         raise Refused(status) from error
+
+
+def _read(descriptor, at, wanted):
+    """So many bytes of a file, or as many as there are up to its end or to bytes that can't be read."""
+    pieces, got = [], 0
+    while got < wanted:
+        try:
+            read = os.pread(descriptor, min(wanted - got, 1 << 30), at + got)
+        except OSError:
+            break
+        if not read:
+            break
+        pieces.append(read)
+        got += len(read)
+    return pieces[0] if len(pieces) == 1 else b"".join(pieces)
+
+
+def _name_while_made(path):
+    """The name that a file has while it is made."""
+    return path + (b".dilluvas-new" if isinstance(path, bytes) else ".dilluvas-new")
 
 
 def _open_locked(path, flags):

@@ -97,17 +97,30 @@ class System:
     def rename(self, old, new):
         if self._goes_wrong():
             self._go_wrong(errno.EACCES, errno.EXDEV)
-        self._renamed = (old, new)
+        self._forget_rename()
+        kept = None
+        if os.path.exists(new):
+            kept = new + ".kept"
+            os.link(new, kept)
+        self._renamed = (old, new, kept)
         os.rename(old, new)
 
     def unlink(self, path):
         if self.is_off:
             raise PowerCut
+        if os.stat(path).st_ino == self._file:
+            self._unsynced = []
         os.unlink(path)
 
     def fsync(self, folder):
         if self._goes_wrong():
             self._go_wrong(errno.EIO)
+        self._forget_rename()
+
+    # What was renamed has its new name for good.
+    def _forget_rename(self):
+        if self._renamed is not None and self._renamed[2] is not None:
+            os.unlink(self._renamed[2])
         self._renamed = None
 
     def _part(self, count):
@@ -135,10 +148,13 @@ class System:
         name may be lost."""
         self.is_off = False
         if self._renamed is not None:
-            old, new = self._renamed
-            self._renamed = None
+            old, new, kept = self._renamed
             if self._random.randrange(2):
                 os.rename(new, old)
+                if kept is not None:
+                    os.rename(kept, new)
+                self._renamed = None
+            self._forget_rename()
         if self._unsynced and os.path.exists(path) and os.stat(path).st_ino == self._file:
             with open(path, "r+b") as file:
                 left = self._left(file.read())

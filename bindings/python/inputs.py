@@ -19,6 +19,7 @@ CALLS = {
     "allocate": (), "get": (2,), "value": (2, b""), "set": (2, 1, b"", b""), "delete": (2, 1, b""), "replace": (2, 1, []),
     "free": (2, 1), "root": (b"",), "cas_root": (b"", None, 2), "open_tree": (b"",), "pin": (), "seal": (), "cancel": (),
     "generate_id": (), "flush": (), "size": (), "amplification": (), "attempt_gc": (), "was_recovered": (),
+    "compact": (),
 }  # fmt: skip
 
 

@@ -10,7 +10,7 @@ from dilluvas_file import FileCache
 from faults import ENDS, FAILS, PowerCut, System
 from history import History
 from journal import Journal, end_of, with_gates_open
-from machine import FLUSH, MEMORY, NOT_OPEN, Change, Held, Machine
+from machine import BATCH_OPEN, FLUSH, MEMORY, NOT_OPEN, Change, Held, Machine, Node
 from scripts import Writer
 
 
@@ -44,7 +44,7 @@ class Script:
         self.loop = c_loop.Loop(self.system, self.random) if c_loop.is_there() else None
         self.open_cache = self.loop or FileCache
         self.writer = Writer(self.random)
-        self.journal = self.history = None
+        self.journal = self.history = self.rewritten = None
         self.interval, self.last_id = self.random.randint(1, 10), -1
         self.is_long = self.random.randrange(16) == 0
         self.names = set()
@@ -99,6 +99,9 @@ class Script:
             self.counts["crashes"] += 1
         self.system.stop_process()
         self.system.disarm()
+        if self.rewritten is not None and self._is_another_file():
+            self._take_file()
+        self.rewritten = None
 
     # ---- Opening.
 
@@ -194,6 +197,8 @@ class Script:
         """Whether all is well behind it: no write failed."""
         self.trail.append((name, arguments))
         self.counts["calls"] += 1
+        if name == "compact":
+            return self._compact(cache)
         if name in ("root", "cas_root", "open_tree"):
             self.names.add(arguments[0])
         expected = self._expected(name, arguments)
@@ -276,6 +281,65 @@ class Script:
         if name == "generate_id" and answer[0] == OK:
             check(answer[1] > self.last_id, "an id came twice", answer[1], self.last_id)
             self.last_id = answer[1]
+
+    # ---- Rewriting the file.
+
+    def _compact(self, cache):
+        """The file is rewritten, or it and the cache stay as they were. Whether all is well behind it."""
+        system, reads, writes = self.system, self.system.failed_reads, self.system.failed_writes
+        was_left = os.path.exists(self.path + ".dilluvas-new")
+        self.rewritten = os.stat(self.path).st_ino, self._content(), self._journal_of_pages()
+        status, _ = self._with_less_memory(lambda: answer_of(cache, "compact", ()))
+        is_new = self._is_another_file()
+        check(was_left or not os.path.exists(self.path + ".dilluvas-new"), "a new file is left")
+        if status == OK:
+            check(is_new and not self.machine.is_batch, "it isn't rewritten")
+            check(system.failed_writes == writes, "a write failed")
+        elif system.failed_writes > writes:
+            check(status in (WRITE, NO_ACCESS), "a write failed", status)
+        elif status == MEMORY:
+            check(self.was_refused, "no allocation failed")
+        elif status == READ:
+            check(system.failed_reads > reads, "no read failed")
+        else:
+            check(status == BATCH_OPEN and self.machine.is_batch, "refused", status)
+        self.counts[f"rewritings {'refused' if status else 'answered'}"] += 1
+        if is_new:
+            check(status in (OK, WRITE), "it is rewritten", status)
+            self._take_file()
+            return status == OK
+        check(self._content() == self.rewritten[1], "the old file was changed", status)
+        # what failed was the other file's
+        self.rewritten, system.failed_writes = None, writes
+        return True
+
+    def _content(self):
+        with open(self.path, "rb") as file:
+            return file.read()
+
+    def _is_another_file(self):
+        """Whether the path leads to another file than it did before the cache was rewritten."""
+        return os.stat(self.path).st_ino != self.rewritten[0]
+
+    def _journal_of_pages(self):
+        """A new file of the pages: each is one message, and one that is free an empty leaf that is freed."""
+        journal = Journal()
+        journal.segment_size = self.settings["segment_size"]
+        for page, held in enumerate(self.machine.held):
+            if held.content is None:
+                journal.take(Change(page, Held(Node(False, ()), 1)))
+            journal.take(Change(page, Held(held.content, 1)))
+        journal.take(FLUSH)
+        del journal.ends[:-1]
+        return journal
+
+    def _take_file(self):
+        """The path leads to the new file, over which the cache is as it was opened."""
+        self.journal, self.rewritten = self.rewritten[2], None
+        self._end_of_file()
+        self.machine = Machine(self.journal.stable, self.settings["interval"], False)
+        if self.history is not None:
+            self.history.add((FLUSH,), True)
 
     def _is_stuck(self, cache):
         """Behind a write that failed every call answers so, and does nothing."""

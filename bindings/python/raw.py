@@ -19,7 +19,7 @@ class Script:
     def __init__(self, seed, folder, counts):
         self.random, self.counts = random.Random(seed), counts
         self.writer = Writer(self.random)
-        self.handle, self.room = _Handle(), ctypes.create_string_buffer(_ROOM)
+        self.handle, self.into, self.room = _Handle(), _Handle(), ctypes.create_string_buffer(_ROOM)
         self.number, self.other, self.size = c_uint64(), c_uint64(), c_size_t()
         self.file = bytearray()
         # of so many tasks one isn't done, and of so many bytes that are needed some are others
@@ -36,6 +36,7 @@ class Script:
                     self._serve()
         finally:
             _call("close", byref(self.handle))
+            _call("close", byref(self.into))
 
     def _open(self):
         if self.random.randrange(8) == 0:
@@ -106,6 +107,32 @@ class Script:
         if not is_right:
             settings = _FileSettings(choose((0, LARGEST)), choose((0, 1)), choose((0, 1)))
         return self._ask("open_file", byref(settings), end if is_right else choose((0, end + 1, 9, 100, LARGEST)))
+
+    def _file_settings(self):
+        return byref(_FileSettings(256, self.random.choice((0, 1, 10)), self.random.choice((1, 100, LARGEST))))
+
+    def to_new_log(self):
+        return self._ask("new_log", self._file_settings())
+
+    def to_rewrite(self):
+        """Into the other handle, over which a log is made, or a cache is opened, or nothing is."""
+        settings, choose = self._file_settings(), self.random.choice
+        for _ in range(self.random.randrange(5)):
+            _call("new_log", byref(self.into), settings)
+            _call("hand_in", byref(self.into), 0, b"SLPCLOG1" + bytes(choose((1, 1, 9))), choose((9, 9, 9, 1)))
+            task = _Task()
+            while _call("next_task", byref(self.into), byref(task), self.room, _ROOM) == OK and task.kind:
+                pass
+        status = self._ask("rewrite", byref(self.into))
+        _call(choose(("close", "close", "forget", "failed")), byref(self.into))
+        if self.random.randrange(4) == 0:
+            _call("open_file", byref(self.into), settings, 9)
+        return status
+
+    def to_compact(self):
+        choose = self.random.choice
+        settings = _Settings(choose((255, 256, LARGEST)), choose((0, 1, LARGEST)), choose((0, 1)), choose((0, 5, LARGEST)), choose((0, 1, 2)))
+        return self._ask("compact", byref(settings))
 
     def to_forget(self):
         return self._ask("forget")

@@ -27,6 +27,7 @@ _CALLS = {
     "cancel": 2,
     "flush": 6,
     "size": 2,
+    "compact": 2,
     "was_recovered": 1,
     "amplification": 1,
     "attempt_gc": 1,
