@@ -19,6 +19,12 @@ impl Cached {
         }
     }
 
+    /// Rewrites the file. The stamps begin anew then.
+    pub fn compact(&mut self) {
+        self.cache.compact().expect("it is rewritten");
+        self.tokens.iter_mut().for_each(|token| token.stamp = 0);
+    }
+
     fn token(&mut self, page: u64) -> &mut Token {
         &mut self.tokens[(page - FIRST) as usize]
     }

@@ -22,11 +22,13 @@ const NOT_FOUND: c_int = -30798;
 const NO_LOCK: c_uint = 0x40_0000;
 const NO_SYNC: c_uint = 0x1_0000;
 const WRITE_MAP: c_uint = 0x8_0000;
+const COMPACT: c_uint = 1;
 
 unsafe extern "C" {
     fn mdb_env_create(env: *mut Env) -> c_int;
     fn mdb_env_set_mapsize(env: Env, size: usize) -> c_int;
     fn mdb_env_open(env: Env, path: *const c_char, flags: c_uint, mode: c_uint) -> c_int;
+    fn mdb_env_copy2(env: Env, path: *const c_char, flags: c_uint) -> c_int;
     fn mdb_env_close(env: Env);
     fn mdb_txn_begin(env: Env, parent: Txn, flags: c_uint, txn: *mut Txn) -> c_int;
     fn mdb_txn_commit(txn: Txn) -> c_int;
@@ -70,6 +72,10 @@ fn row(page: u64, key: &[u8]) -> Vec<u8> {
     row
 }
 
+fn path_of(folder: &Path) -> CString {
+    CString::new(folder.as_os_str().as_encoded_bytes()).expect("no zero is in it")
+}
+
 /// LMDB over a folder.
 pub struct Lmdb {
     env: Env,
@@ -83,7 +89,7 @@ pub struct Lmdb {
 impl Lmdb {
     /// With `syncs` a commit is durable. Without, the file is written through a map of memory.
     pub fn open(folder: &Path, syncs: bool) -> Lmdb {
-        let path = CString::new(folder.as_os_str().as_encoded_bytes()).expect("no zero is in it");
+        let path = path_of(folder);
         let kind = if syncs { 0 } else { NO_SYNC | WRITE_MAP };
         let mut env = null_mut();
         unsafe {
@@ -100,6 +106,12 @@ impl Lmdb {
         };
         lmdb.begin();
         lmdb
+    }
+
+    /// Copies what is committed to another folder, with compaction. Nothing is synced.
+    pub fn copy(&self, folder: &Path) {
+        let path = path_of(folder);
+        check(unsafe { mdb_env_copy2(self.env, path.as_ptr(), COMPACT) });
     }
 
     fn begin(&mut self) {

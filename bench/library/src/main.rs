@@ -3,6 +3,8 @@
 //! `library MEMORY DISK`: a line for each row and store, `PLACE PAGES CAPACITY ROW STORE NANOSECONDS`: the least of the processor's times
 //! for a call. MEMORY is a folder in memory, where nothing waits for a disk, and DISK one on a disk, to which each flush is synced.
 //! CAPACITY is that of the cache, in MiB.
+//!
+//! `library --compact DISK`: how long it takes to rewrite a file, and how much that takes before and then (`compact`).
 
 use cache::Cached;
 use dilluvas::{Cache, FileSettings, Settings};
@@ -13,6 +15,7 @@ use std::{env, fs};
 use store::{FIRST, Pages, Store};
 
 mod cache;
+mod compact;
 mod lmdb;
 mod plain_file;
 mod store;
@@ -274,8 +277,11 @@ fn measure_away(folder: &Path) {
 fn main() {
     let folders: Vec<_> = env::args_os().skip(1).collect();
     let [memory, disk] = &folders[..] else {
-        panic!("usage: library MEMORY DISK");
+        panic!("usage: library MEMORY DISK, or library --compact DISK");
     };
+    if memory == "--compact" {
+        return compact::measure(&Path::new(disk).join("library"));
+    }
     let memory = Path::new(memory).join("library");
     let disk = Path::new(disk).join("library");
     for row in ROWS.iter().chain(&MANY) {
