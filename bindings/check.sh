@@ -31,7 +31,7 @@ trap 'rm -rf "$files"' EXIT
 chmod 755 "$files"
 compile no_memory "$out/dilluvas_file.c" -Wl,--wrap=malloc,--wrap=calloc,--wrap=realloc,--wrap=free
 "$out/no_memory" "$files"
-failing=-Wl,--wrap=pread,--wrap=pwrite,--wrap=fdatasync,--wrap=fsync
+failing=-Wl,--wrap=pread,--wrap=pwrite,--wrap=fdatasync,--wrap=fsync,--wrap=rename
 compile file "$here/c/failing.c" "$out/dilluvas_file.c" "$failing"
 "$out/file" "$files"
 for name in compact compact_failing; do

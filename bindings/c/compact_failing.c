@@ -135,7 +135,9 @@ static void what_a_killed_process_left_is_made_anew(void) {
     dilluvas_file file = opened();
     allocates(&file, 2, 1);
     sets(&file, 2, 1, "v", 1);
-    put(other, "left by one that was killed, and longer than the file that is made in its place", 0644);
+    char left[500] = {0};
+    memset(left, 'x', sizeof left - 1);
+    put(other, left, 0644);
     IS(compact(&file), DILLUVAS_OK);
     IS(size_of(path), 82);
     IS(size_of(other), -1);

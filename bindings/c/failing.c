@@ -50,11 +50,13 @@ static void look(void) {
 ssize_t __real_pread(int descriptor, void *bytes, size_t len, off_t at);
 int __real_fdatasync(int descriptor);
 int __real_fsync(int descriptor);
+int __real_rename(const char *old, const char *new);
 
 ssize_t __wrap_pread(int descriptor, void *bytes, size_t len, off_t at);
 ssize_t __wrap_pwrite(int descriptor, const void *bytes, size_t len, off_t at);
 int __wrap_fdatasync(int descriptor);
 int __wrap_fsync(int descriptor);
+int __wrap_rename(const char *old, const char *new);
 
 ssize_t __wrap_pread(int descriptor, void *bytes, size_t len, off_t at) {
     if (is_interrupted() || fails(READS)) return -1;
@@ -79,4 +81,11 @@ int __wrap_fsync(int descriptor) {
     if (fails(SYNCS)) return -1;
     look();
     return __real_fsync(descriptor);
+}
+
+int __wrap_rename(const char *old, const char *new) {
+    look();
+    int done = __real_rename(old, new);
+    look();
+    return done;
 }

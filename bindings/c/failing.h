@@ -1,5 +1,5 @@
 /* What the programs share that let calls of the system fail: checks, and the calls. Linked with failing.c, and --wrap=pread, --wrap=pwrite,
- * --wrap=fdatasync and --wrap=fsync. */
+ * --wrap=fdatasync, --wrap=fsync and --wrap=rename. */
 #ifndef FAILING_H
 #define FAILING_H
 
@@ -23,7 +23,7 @@ extern bool lasting;
 /* Nothing fails from here on, and nothing was made. */
 void all_goes_well(void);
 
-/* What is done before each write and each sync, and behind it. */
+/* What is done before each write, each sync and each new name, and behind some of them. */
 extern void (*watch)(void);
 
 ssize_t __real_pwrite(int descriptor, const void *bytes, size_t len, off_t at);

@@ -1,6 +1,6 @@
 /* Makes calls of a cache over a file, and lets each call of the system fail in turn. Of all reads and writes some are cut short and some
- * interrupted. Prints the line of each check that fails: the status is 1 then. Linked with --wrap=pread, --wrap=pwrite, --wrap=fdatasync
- * and --wrap=fsync. Usage: file FOLDER, in which it makes its files. */
+ * interrupted. Prints the line of each check that fails: the status is 1 then. Linked with failing.c. Usage: file FOLDER, in which it makes
+ * its files. */
 #define _DEFAULT_SOURCE
 #include "dilluvas_file.h"
 #include "failing.h"

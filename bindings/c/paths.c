@@ -21,15 +21,15 @@ static void is(int line, unsigned long long got, unsigned long long wanted) {
 
 /* ---- The system. */
 
-/* From this place on nothing can be read, and whether folders can't be synced. */
-static off_t bad_from = -1;
+/* From this place up to that nothing can be read, and whether folders can't be synced. */
+static off_t bad_from = -1, bad_to = INT64_MAX;
 static bool no_sync;
 
 ssize_t __real_pread(int descriptor, void *bytes, size_t len, off_t at);
 int __real_fsync(int descriptor);
 
 ssize_t __wrap_pread(int descriptor, void *bytes, size_t len, off_t at) {
-    if (bad_from < 0 || at + (off_t)len <= bad_from) return __real_pread(descriptor, bytes, len, at);
+    if (bad_from < 0 || at + (off_t)len <= bad_from || bad_to <= at) return __real_pread(descriptor, bytes, len, at);
     if (at < bad_from) return __real_pread(descriptor, bytes, (size_t)(bad_from - at), at);
     errno = EIO;
     return -1;
@@ -163,6 +163,35 @@ static void a_bad_block_harms_its_pages_alone(void) {
     dilluvas_file_close(&file);
 }
 
+/* What lies between the pages that are read to be rewritten may be unreadable, where no page needs it. */
+static void a_bad_block_that_no_page_needs_is_passed_over(void) {
+    dilluvas_file file = DILLUVAS_FILE_CLOSED;
+    dilluvas_status status;
+    uint64_t pages[2], stamps[2];
+    uint8_t pairs[3000], value[3000];
+    size_t written;
+    dilluvas_found found;
+    memset(value, 'v', sizeof value);
+    IS(dilluvas_file_open(&file, "passed", NULL), DILLUVAS_OK);
+    for (int i = 0; i < 2; i++) {
+        size_t end = dilluvas_put(pairs, sizeof pairs, 0, "k", 1, value, i ? 1 : 2900);
+        DILLUVAS_FILE_CALL(&file, status, dilluvas_allocate(&file.cache, pairs, end, &pages[i], &stamps[i]));
+        IS(status, DILLUVAS_OK);
+    }
+    DILLUVAS_FILE_CALL(&file, status, dilluvas_free(&file.cache, pages[0], &stamps[0]));
+    DILLUVAS_FILE_CALL(&file, status, dilluvas_flush(&file.cache, &written));
+    dilluvas_file_close(&file);
+    IS(dilluvas_file_open(&file, "passed", NULL), DILLUVAS_OK);
+    bad_from = 1000;
+    bad_to = 2000;
+    IS(dilluvas_file_compact(&file), DILLUVAS_OK);
+    bad_from = -1;
+    bad_to = INT64_MAX;
+    DILLUVAS_FILE_CALL(&file, status, dilluvas_get(&file.cache, pages[1], &found, pairs, sizeof pairs));
+    IS(status == DILLUVAS_OK && found.count == 1, true);
+    dilluvas_file_close(&file);
+}
+
 int main(int count, char **arguments) {
     if (count != 2 || chdir(arguments[1]) != 0 || mkdir("paths", 0755) != 0 || chdir("paths") != 0) return 2;
     what_is_no_file_is_not_opened();
@@ -172,6 +201,7 @@ int main(int count, char **arguments) {
     zeros_are_closed();
     a_name_is_synced();
     a_bad_block_harms_its_pages_alone();
+    a_bad_block_that_no_page_needs_is_passed_over();
     if (failures == 0) printf("paths: passed\n");
     return failures != 0;
 }

@@ -57,10 +57,34 @@ def log(cache):
     assert not cache.attempt_gc() and not cache.was_recovered()
 
 
+def compact(cache):
+    """The log has each page as one message, and the pages are as in a cache that was opened."""
+    page, stamp = cache.allocate([(b"a", b"1")])
+    freed, other = cache.allocate()
+    cache.free(freed, other)
+    for _ in range(30):
+        stamp = cache.replace(page, stamp, [(b"a", b"2" * 100)])
+    cache.cas_root(b"compact", None, page)
+    size, number = cache.size(), cache.generate_id()
+    cache.pin()
+    assert refused(cache.compact).status == 108
+    cache.seal()
+    cache.compact()
+    small = cache.size()
+    cache.compact()
+    assert cache.size() == small < size
+    assert cache.was_recovered() and cache.root(b"compact") == page
+    assert cache.get(page) == (0, False, [(b"a", b"2" * 100)]) and cache.get(freed) is None
+    assert cache.generate_id() > number
+    assert cache.allocate() == (freed, 1)
+    return page
+
+
 with Cache() as opened:
     pages(opened)
     roots(opened)
     log(opened)
+    compact(opened)
 assert refused(opened.flush).status == 5
 assert str(refused(lambda: Cache(capacity=255))) == text_of(102)
 
@@ -79,6 +103,8 @@ def file(folder):
         assert refused(lambda: FileCache(path)).status == HELD
     with FileCache(path, **small) as cache:
         assert cache.was_recovered()
+        compact(cache)
+        assert refused(lambda: FileCache(path)).status == HELD
         assert all(cache.get(page).pairs == [(b"key", b"then" * 20)] for page in stamps)
         assert cache.value(long, b"key") == b"long" * 50000
     with open(path, "r+b") as damaged:
