@@ -9,7 +9,7 @@ class History:
 
     def __init__(self, contents):
         self._contents = list(contents)
-        self._events, self._flushed = [], 0
+        self._events, self.flushed = [], 0
 
     def add(self, events, is_done):
         """A call did these, or had begun them when something went wrong."""
@@ -17,7 +17,7 @@ class History:
             if isinstance(event, Change) or event in (PIN, SEAL, CANCEL):
                 self._events.append(event)
             elif event == FLUSH and is_done:
-                self._flushed = len(self._events)
+                self.flushed = len(self._events)
 
     def _cuts(self):
         """Where a prefix may end: not inside a batch that is sealed or still open."""
@@ -41,6 +41,6 @@ class History:
             event = self._events[count - 1] if count else None
             if isinstance(event, Change):
                 contents[event.page : event.page + 1] = [event.held.content]
-            if count >= self._flushed and count in cuts and contents == shown:
+            if count >= self.flushed and count in cuts and contents == shown:
                 return True
         return False

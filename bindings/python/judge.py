@@ -44,7 +44,7 @@ class Script:
         self.loop = c_loop.Loop(self.system, self.random) if c_loop.is_there() else None
         self.open_cache = self.loop or FileCache
         self.writer = Writer(self.random)
-        self.journal = self.history = self.rewritten = None
+        self.journal = self.history = self.rewritten = self.replaced = None
         self.interval, self.last_id = self.random.randint(1, 10), -1
         self.is_long = self.random.randrange(16) == 0
         self.names = set()
@@ -95,13 +95,20 @@ class Script:
         check(answer_of(cache, "flush", ()) == (NOT_OPEN, None), "a closed handle does something")
         cache.close()
         if is_crash and self.random.randrange(4):
-            self.system.lose_power(self.path)
-            self.counts["crashes"] += 1
+            self._lose_power()
         self.system.stop_process()
         self.system.disarm()
         if self.rewritten is not None and self._is_another_file():
             self._take_file()
         self.rewritten = None
+
+    def _lose_power(self):
+        self.counts["crashes"] += 1
+        self.system.lose_power(self.path)
+        if self.replaced is not None and os.stat(self.path).st_ino == self.replaced[0]:
+            _, self.journal, self.history.flushed = self.replaced
+            self.counts["old files that came back"] += 1
+        self.replaced = None
 
     # ---- Opening.
 
@@ -134,8 +141,7 @@ class Script:
 
     def _is_unmade(self, was_there):
         if self.random.randrange(4):
-            self.counts["crashes"] += 1
-            self.system.lose_power(self.path)
+            self._lose_power()
         self.system.stop_process()
         if was_there:
             self._end_of_file()
@@ -168,6 +174,7 @@ class Script:
 
     def _is_opened(self, is_new):
         self.counts["openings"] += 1
+        self.replaced = None
         self.interval += self.random.choice((0, 0, 1))
         if is_new:
             self._is_new()
@@ -307,6 +314,8 @@ class Script:
         if is_new:
             check(status in (OK, WRITE), "it is rewritten", status)
             self._take_file()
+            if status == OK:
+                self.replaced = None
             return status == OK
         check(self._content() == self.rewritten[1], "the old file was changed", status)
         # what failed was the other file's
@@ -334,7 +343,8 @@ class Script:
         return journal
 
     def _take_file(self):
-        """The path leads to the new file, over which the cache is as it was opened."""
+        """The path leads to the new file, over which the cache is as it was opened. Until the folder is synced the old one may come back."""
+        self.replaced = self.rewritten[0], self.journal, self.history and self.history.flushed
         self.journal, self.rewritten = self.rewritten[2], None
         self._end_of_file()
         self.machine = Machine(self.journal.stable, self.settings["interval"], False)
