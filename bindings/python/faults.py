@@ -117,6 +117,10 @@ class System:
             self._go_wrong(errno.EIO)
         self._forget_rename()
 
+    def may_vanish(self):
+        """Whether a file that stood nowhere before has a name that may be lost."""
+        return self._renamed is not None and self._renamed[2] is None
+
     # What was renamed has its new name for good.
     def _forget_rename(self):
         if self._renamed is not None and self._renamed[2] is not None:

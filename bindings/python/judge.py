@@ -140,12 +140,15 @@ class Script:
         return os.path.exists(self.path) and os.path.getsize(self.path) > 0
 
     def _is_unmade(self, was_there):
+        may_vanish = self.system.may_vanish()
         if self.random.randrange(4):
             self._lose_power()
         self.system.stop_process()
-        if was_there:
+        is_there = self._is_there()
+        check(is_there or may_vanish or not was_there, "the file is gone")
+        if was_there and is_there:
             self._end_of_file()
-        elif self._is_there():
+        elif is_there:
             self._is_new()
 
     def _is_unopened(self, status, was_there):

@@ -203,8 +203,9 @@ fn every_call_answers_write(cache: &mut Cache, device: &Shared) {
         cache.amplification().err(),
         cache.attempt_gc().err(),
         cache.was_recovered().err(),
+        cache.compact_to(Shared::default()).err(),
     ];
-    assert_eq!(refused, [Some(Error::Write); 17]);
+    assert_eq!(refused, [Some(Error::Write); 18]);
     assert_eq!(device.calls(), calls, "the device is left alone");
 }
 
