@@ -5,7 +5,7 @@ use Rattle.sled_log.specs.declared.log.Log.{Ghosts}
 use Rattle.sled_log.specs.declared.memory.MemLog.{MemLog}
 use Rattle.sled_pagecache.specs.Cache.{Cache}
 use Rattle.sled_pagecache.specs.declared.pagecache.handles.config.Config.{Config}
-use Rattle.sled_c.specs.Files.{IsRead}
+use Rattle.sled_c.specs.Files.{IsNewLog, IsRead}
 use Rattle.sled_c.specs.Handles.{FileLog}
 use Rattle.sled_c.specs.Numbers as number
 use Rattle.sled_c.specs.Numbers.{number_of_error}
@@ -15,11 +15,11 @@ use Rattle.sled_c.specs.declared.store.Store.{Store}
 use Rattle.sled_c.specs.declared.store.Store.TheVariants.{Begun}
 
 module _ {L : Type 0} {g : Ghosts L} {file : Ghosts FileLog} {old left : Cache L} {opening : Opening} {given : FileLog} {answer : Result FileLog (Error × FileLog)}
-    (read : IsRead opening given) (is : IsAnswered g file old left given answer) (new : Cache L) (same : new ≡ left) (before after : Option Store) (from : before ≡ Some (Begun opening)) (status : ℕ) where
+    (fresh : IsNewLog file opening given) (is : IsAnswered g file old left given answer) (new : Cache L) (same : new ≡ left) (before after : Option Store) (from : before ≡ Some (Begun opening)) (status : ℕ) where
   told : TellsRewritten opening.config answer after status → Rewrites g file old new before after status
   told tells =
       subst (λ (c : Cache L). Rewrites g file old c before after status) (sym same)
-      (subst (λ (b : Option Store). Rewrites g file old left b after status) (sym from) (inr (given, read, (answer, is, tells))))
+      (subst (λ (b : Option Store). Rewrites g file old left b after status) (sym from) (inr (given, fresh, (answer, is, tells))))
 
   pub told_done : (log : FileLog) (then : Opening) → answer ≡ Ok log → after ≡ Some (Begun then) → status ≡ number.ok → then.config ≡ opening.config → IsRead then log → Rewrites g file old new before after status
   told_done log then ea et es ec has =

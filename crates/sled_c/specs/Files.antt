@@ -73,9 +73,17 @@ IsRead opening log = (read : ReadLog) × (opening.step ≡ Some (Read read)) × 
 abbrev pub HasRead : Opening → Type 0
 HasRead opening = (log : FileLog) × IsRead opening log
 
--- none was read, or it has more bytes than one that holds nothing
+-- so many bytes has the file of a log that holds nothing
+abbrev pub new_size : ℕ
+new_size = 9
+
+-- this one was read, and holds nothing
+abbrev pub IsNewLog : Ghosts FileLog → Opening → FileLog → Type 0
+IsNewLog g opening log = IsRead opening log × (g.bytes log ≡ new_size)
+
+-- there is none
 abbrev pub IsNotNew : Ghosts FileLog → Opening → Type 0
-IsNotNew g opening = (log : FileLog) → IsRead opening log → g.bytes log ≢ 9
+IsNotNew g opening = (log : FileLog) → IsRead opening log → g.bytes log ≢ new_size
 
 -- An opening with these settings goes on until its log is read: bytes are needed, or it is read, or the handle is closed and it is told why.
 abbrev pub ReadsOn : Config → Option Store → ℕ → Type 0

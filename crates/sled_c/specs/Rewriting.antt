@@ -20,7 +20,7 @@ use Rattle.sled_pagecache.specs.Memory.{KeepsMemory}
 use Rattle.sled_pagecache.specs.Opening.{IsBlamedOpening, Opens, RefusesOpening, fault_of}
 use Rattle.sled_pagecache.specs.Rewriting.{IsBlamedRewriting, IsFullFor, IsRewritten, StaysInState}
 use Rattle.sled_pagecache.specs.declared.pagecache.handles.config.Config.{Config}
-use Rattle.sled_c.specs.Files.{IsNotNew, IsRead}
+use Rattle.sled_c.specs.Files.{IsNewLog, IsNotNew, IsRead}
 use Rattle.sled_c.specs.Handles.{FileLog}
 use Rattle.sled_c.specs.Numbers as number
 use Rattle.sled_c.specs.Numbers.{number_of_error}
@@ -61,7 +61,7 @@ Rewrites g file old new (Some (Memory other)) into status = (status ≡ number.a
 Rewrites g file old new (Some (File other)) into status = (status ≡ number.already_open) × IsLeft old new (Some (File other)) into
 Rewrites g file old new (Some (Begun opening)) into status =
     ((status ≡ number.closed) × IsNotNew file opening × IsLeft old new (Some (Begun opening)) into)
-    ⊎ ((given : FileLog) × IsRead opening given × ((answer : Result FileLog (Error × FileLog)) × IsAnswered g file old new given answer × TellsRewritten opening.config answer into status))
+    ⊎ ((given : FileLog) × IsNewLog file opening given × ((answer : Result FileLog (Error × FileLog)) × IsAnswered g file old new given answer × TellsRewritten opening.config answer into status))
 
 -- What `start` answers, where it is given this log.
 pub record IsStarted (log : MemLog) (config : Config) (answer : Result (Cache MemLog) (Error × MemLog)) : Type 0 where

@@ -2,7 +2,7 @@
 
 ghost use Rattle.std.specs.Prelude.{◌≡◌, None, true, IfOk, IfErr, IfSome, IfNone};
 ghost use Rattle.sled_pagecache.specs.Opening.{MayBeOpened, fault_of};
-ghost use Rattle.sled_c.specs.Files.{HasRead, IsFailure, IsNotNew, IsOpened, IsRead, TellsFault};
+ghost use Rattle.sled_c.specs.Files.{HasRead, IsFailure, IsNotNew, IsOpened, IsRead, TellsFault, new_size};
 
 use crate::status::{READ, status_of};
 use read_log::ReadLog;
@@ -120,6 +120,7 @@ impl Opening {
     /// Takes out the log, if it was read and holds nothing.
     pub fn take_new_log(&mut self) -> Option<FileLog>
         ensures some { IfSome result (λ log. IsRead self.old log) }
+        ensures new { IfSome result (λ log. ⟦<FileLog as Log>⟧.bytes log ≡ new_size) }
         ensures may { IfSome result (MayBeOpened ⟦<FileLog as Log>⟧) }
         ensures none { IfNone result (IsNotNew ⟦<FileLog as Log>⟧ self.old) }
         ensures kept { IfNone result (self.new ≡ self.old) }
