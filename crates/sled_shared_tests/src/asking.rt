@@ -37,7 +37,8 @@ pub fn ask<K: Tally, R: Wait>(
         all &= generate_id(rt, alloc, shared, share, texts);
         all &= flush(rt, alloc, shared, share, texts);
         all &= open_tree(rt, alloc, shared, share, round, texts);
-        all &= cas(rt, alloc, shared, share, round, texts);
+        let name = name_of(b'c', round);
+        all &= cas(rt, alloc, shared, share, &name, None, Some(2), texts);
         all &= root(rt, alloc, shared, share, round, texts);
         let own = PageView::new(0, stamp);
         all &= batch(
@@ -79,7 +80,8 @@ pub fn ask_in_a_row<K: Tally, R: Wait>(
     all &= generate_id(rt, alloc, shared, share, texts);
     all &= flush(rt, alloc, shared, share, texts);
     all &= open_tree(rt, alloc, shared, share, 0, texts);
-    all &= cas(rt, alloc, shared, share, 0, texts);
+    let name = name_of(b'c', 0);
+    all &= cas(rt, alloc, shared, share, &name, None, Some(2), texts);
     all &= root(rt, alloc, shared, share, 0, texts);
     all &= root(rt, alloc, shared, share, 1, texts);
     all
@@ -97,7 +99,7 @@ fn allocate<K: Tally, R: Wait>(
     add(texts, format!(in alloc; "allocate {asked:?}: {answer:?}"))
 }
 
-fn get<K: Tally, R: Wait>(
+pub fn get<K: Tally, R: Wait>(
     rt: &R,
     alloc: Global,
     shared: &SharedPageCache<MemLog, K>,
@@ -124,7 +126,7 @@ fn got_text(
     }
 }
 
-fn link<K: Tally, R: Wait>(
+pub fn link<K: Tally, R: Wait>(
     rt: &R,
     alloc: Global,
     shared: &SharedPageCache<MemLog, K>,
@@ -145,7 +147,7 @@ fn link_of(alloc: Global, worker: u8) -> Result<Link, AllocError> {
     Ok(Link::Set(IVec::from_slice(alloc, b"key")?, value))
 }
 
-fn replace<K: Tally, R: Wait>(
+pub fn replace<K: Tally, R: Wait>(
     rt: &R,
     alloc: Global,
     shared: &SharedPageCache<MemLog, K>,
@@ -157,7 +159,7 @@ fn replace<K: Tally, R: Wait>(
     add(texts, swap_text(alloc, old, &Node::default(alloc), &answer))
 }
 
-fn free<K: Tally, R: Wait>(
+pub fn free<K: Tally, R: Wait>(
     rt: &R,
     alloc: Global,
     shared: &SharedPageCache<MemLog, K>,
@@ -215,7 +217,7 @@ fn generate_id<K: Tally, R: Wait>(
     add(texts, format!(in alloc; "id: {answer:?}"))
 }
 
-fn flush<K: Tally, R: Wait>(
+pub fn flush<K: Tally, R: Wait>(
     rt: &R,
     alloc: Global,
     shared: &SharedPageCache<MemLog, K>,
@@ -249,17 +251,17 @@ fn open_tree<K: Tally, R: Wait>(
     add(texts, format!(in alloc; "open {name:?}: {answer:?}"))
 }
 
-fn cas<K: Tally, R: Wait>(
+pub fn cas<K: Tally, R: Wait>(
     rt: &R,
     alloc: Global,
     shared: &SharedPageCache<MemLog, K>,
     share: &mut Share<K>,
-    round: u8,
+    name: &[u8],
+    old: Option<PageId>,
+    new: Option<PageId>,
     texts: &mut Vec<String>,
 ) -> bool {
-    let name = name_of(b'c', round);
-    let answer = shared.cas_root_in_meta(rt, &name, None, Some(2), share);
-    let (old, new): (Option<PageId>, Option<PageId>) = (None, Some(2));
+    let answer = shared.cas_root_in_meta(rt, name, old, new, share);
     add(
         texts,
         format!(in alloc; "cas {name:?} {old:?} {new:?}: {answer:?}"),
@@ -292,7 +294,7 @@ fn root_text(
     }
 }
 
-fn batch<K: Tally, R: Wait>(
+pub fn batch<K: Tally, R: Wait>(
     rt: &R,
     alloc: Global,
     shared: &SharedPageCache<MemLog, K>,
@@ -301,15 +303,39 @@ fn batch<K: Tally, R: Wait>(
     last: PageView,
     texts: &mut Vec<String>,
 ) -> bool {
-    let (Ok(swaps), Ok(same)) = (swaps_of(alloc, old, last), swaps_of(alloc, old, last)) else {
+    match swaps_of(alloc, old, last) {
+        Ok(swaps) => batch_of(rt, alloc, shared, share, swaps, old, texts),
+        Err(_) => false,
+    }
+}
+
+/// Makes these swaps in a batch. Those that end well or stale are by that token.
+pub fn batch_of<K: Tally, R: Wait>(
+    rt: &R,
+    alloc: Global,
+    shared: &SharedPageCache<MemLog, K>,
+    share: &mut Share<K>,
+    swaps: Vec<Swap>,
+    old: PageView,
+    texts: &mut Vec<String>,
+) -> bool {
+    let Ok(same) = copies_of(alloc, &swaps) else {
         return false;
     };
     let answer = shared.batch(rt, swaps, share);
     add(texts, batch_text(alloc, &same, old, &answer))
 }
 
-// A replacement and a link of one page, by one token, and another page to be freed.
-fn swaps_of(alloc: Global, old: PageView, last: PageView) -> Result<Vec<Swap>, AllocError> {
+pub fn copies_of(alloc: Global, swaps: &[Swap]) -> Result<Vec<Swap>, AllocError> {
+    let mut copies = Vec::new(alloc);
+    for swap in swaps {
+        copies.push(swap.clone()?)?;
+    }
+    Ok(copies)
+}
+
+/// A replacement and a link of one page, by one token, and another page to be freed.
+pub fn swaps_of(alloc: Global, old: PageView, last: PageView) -> Result<Vec<Swap>, AllocError> {
     let mut swaps = Vec::new(alloc);
     swaps.push(Swap::Replace(old, Node::default(alloc)))?;
     swaps.push(Swap::Link(old, Link::ChildMergeCap))?;

@@ -8,6 +8,7 @@
 //! - `poor`: a log without room, and a damaged page
 //! - `replay`: entries that are made once more
 //! - `rows`: books that are filled, taken and closed, and a batch that is cancelled
+//! - `tokens`: tokens that no call gave, and ids of every size
 //! - `readme`: the README's example
 //!
 //! They are compiled with the tests alone, so that each is proved once.
@@ -33,3 +34,5 @@ mod replay;
 mod rows;
 #[cfg(test)]
 mod tests;
+#[cfg(test)]
+mod tokens;

@@ -2,10 +2,11 @@
 
 ghost use Rattle.std.specs.Prelude.{◌≡◌, ◌<◌};
 
+use crate::asking::copies_of;
 use crate::crews::shared;
 use crate::entered::texts_of;
 use sled_pagecache::{Error, MemLog};
-use sled_shared::{Batch, Book, Called, Entry, Share, SharedPageCache, Swap, Tally};
+use sled_shared::{Book, Called, Entry, Share, SharedPageCache, Tally};
 use std::alloc::{AllocError, Global};
 use std::sync::Wait;
 use std::sync::ledger::Blank;
@@ -32,7 +33,8 @@ pub fn replayed<K: Tally, R: Wait>(
     Ok(texts_of(alloc, book.entries())?)
 }
 
-fn ask_again<K: Tally, R: Wait>(
+/// Makes the calls of these entries once more, in their order.
+pub fn ask_again<K: Tally, R: Wait>(
     rt: &R,
     alloc: Global,
     shared: &SharedPageCache<MemLog, K>,
@@ -74,15 +76,9 @@ fn ask_one<K: Tally, R: Wait>(
         Called::MetaPidForName(name, _) => {
             drop(shared.meta_pid_for_name(rt, name.as_slice(), share));
         }
-        Called::Batch(asked, _) => drop(shared.batch(rt, swaps_again(alloc, asked)?, share)),
+        Called::Batch(asked, _) => {
+            drop(shared.batch(rt, copies_of(alloc, &asked.swaps)?, share));
+        }
     }
     Ok(())
-}
-
-fn swaps_again(alloc: Global, asked: &Batch) -> Result<Vec<Swap>, AllocError> {
-    let mut swaps = Vec::new(alloc);
-    for swap in &asked.swaps {
-        swaps.push(swap.clone()?)?;
-    }
-    Ok(swaps)
 }

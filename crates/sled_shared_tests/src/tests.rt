@@ -5,6 +5,7 @@ use crate::faults::{kept_before, kept_error};
 use crate::poor::poor;
 use crate::replay::replayed;
 use crate::rows::{FULL, answers_in_a_row, are, batch_rows, end_so, rows};
+use crate::tokens::{strange, strange_again};
 use std::marker::Brand;
 use std::sync::ledger::Blank;
 use std::test::Fail;
@@ -160,4 +161,14 @@ fn a_book_of_no_entries_lets_no_call_in(rt: HostRuntime) {
 fn batches_may_be_empty_and_long(rt: HostRuntime) {
     let told = batches::<Brand, _>(&rt, rt.alloc(), Blank::new(2), 2);
     assert_eq!(rt; told, Some(([(true, 0), (true, 17), (false, 0)], 18)));
+}
+
+#[test]
+fn no_strange_token_changes_a_page(rt: HostRuntime) {
+    let told = strange::<Brand, _>(&rt, rt.alloc(), Blank::new(2), 2);
+    assert!(rt; told.is_some());
+    if let Some((book, texts)) = told {
+        let again = strange_again::<Brand, _>(&rt, rt.alloc(), &book, Blank::new(2), 2);
+        assert_eq!(rt; again, Some(texts));
+    }
 }
