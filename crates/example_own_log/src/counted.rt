@@ -6,12 +6,18 @@ use sled_pagecache::{
     BlobPointer, DiskPtr, Log, LogError, LogOffset, Lsn, MessageKind, PageId, PageState,
 };
 
+/// Where a message was put, by its number, its place and its size, or why it wasn't.
+type Placed = Result<(Lsn, DiskPtr, u64), LogError>;
+
+/// A message that was read, or why it wasn't.
+type Found = Result<(MessageKind, Vec<u8>), LogError>;
+
 /// A log, with the number of its messages and of the bytes of their payloads.
 #[derive(Drop)]
 pub struct Counted<L: Log> {
     inner: L,
-    messages: u64,
-    bytes: u64,
+    pub messages: u64,
+    pub bytes: u64,
 }
 
 impl<L: Log> Counted<L> {
@@ -24,14 +30,6 @@ impl<L: Log> Counted<L> {
             messages: 0,
             bytes: 0,
         }
-    }
-
-    pub fn messages(&self) -> u64 {
-        self.messages
-    }
-
-    pub fn bytes(&self) -> u64 {
-        self.bytes
     }
 }
 
@@ -67,24 +65,14 @@ impl<L: Log> Log for Counted<L> {
 
     ghost since_earlier = { λ log. L.since_earlier log.inner };
 
-    fn append(
-        &mut self,
-        kind: MessageKind,
-        pid: PageId,
-        payload: &[u8],
-    ) -> Result<(Lsn, DiskPtr, u64), LogError> {
+    fn append(&mut self, kind: MessageKind, pid: PageId, payload: &[u8]) -> Placed {
         let place = self.inner.append(kind, pid, payload)?;
         self.messages = self.messages.saturating_add(1);
         self.bytes = self.bytes.saturating_add(payload.len() as u64);
         Ok(place)
     }
 
-    fn read(
-        &mut self,
-        pid: PageId,
-        lsn: Lsn,
-        pointer: DiskPtr,
-    ) -> Result<(MessageKind, Vec<u8>), LogError> {
+    fn read(&mut self, pid: PageId, lsn: Lsn, pointer: DiskPtr) -> Found {
         self.inner.read(pid, lsn, pointer)
     }
 
@@ -108,11 +96,7 @@ impl<L: Log> Log for Counted<L> {
         self.inner.to_move()
     }
 
-    fn rewrite_blob_pointer(
-        &mut self,
-        pid: PageId,
-        blob: BlobPointer,
-    ) -> Result<(Lsn, DiskPtr, u64), LogError> {
+    fn rewrite_blob_pointer(&mut self, pid: PageId, blob: BlobPointer) -> Placed {
         self.inner.rewrite_blob_pointer(pid, blob)
     }
 

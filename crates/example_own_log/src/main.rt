@@ -37,7 +37,7 @@ fn set_often(alloc: Global, store: &mut Store, times: u8) -> Result<(), Error> {
 }
 
 fn print_counts(rt: &HostRuntime, when: &str, store: &Store) -> Result<(), Error> {
-    let (messages, bytes) = (store.log().messages(), store.log().bytes());
+    let (messages, bytes) = (store.log().messages, store.log().bytes);
     println!(rt; "{when}: {messages} messages, {bytes} bytes").map_err(|_| Error::Io(Device::Write))
 }
 
