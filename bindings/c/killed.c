@@ -1,5 +1,5 @@
 /* Kills a process that writes a file and rewrites it, at a random moment, and opens the file again: what was said to be flushed is there, of a
- * batch all or nothing, and no id comes twice. In a rewriting the process often ends itself, before or behind a call of the system. Linked
+ * batch all or nothing, and no id comes twice. Every second process ends itself, before a random call of the system in a rewriting. Linked
  * with --wrap=pwrite, --wrap=fdatasync, --wrap=fsync and --wrap=rename. Usage: killed FOLDER TIMES, in which it makes its file. */
 #define _DEFAULT_SOURCE
 #include "dilluvas_file.h"
@@ -34,11 +34,11 @@ typedef struct told {
 
 enum call { WRITE, SYNC, RENAME, SYNC_FOLDER, END, CALLS };
 
-/* Where a process says what it does, while it rewrites the file. */
-static int teller = -1;
+/* Where a process says what it does, while it rewrites the file, and before which call it ends, unless that is below 0. */
+static int teller = -1, ends_at = -1;
 
 static void may_end(enum call call) {
-    if (teller < 0 || rand() % 16) return;
+    if (teller < 0 || ends_at < 0 || ends_at-- > 0) return;
     told last = {0, call};
     CHECK(write(teller, &last, sizeof last) == sizeof last);
     kill(getpid(), SIGKILL);
@@ -118,10 +118,11 @@ static void write_rounds(int to) {
         }
         if (round < found) round = found;
     }
-    for (;;) {
-        if (round % 3 == 0) {
+    for (int made = 0;; made++) {
+        if (made % 3 == 2) {
             teller = to;
             CHECK(dilluvas_file_compact(&file) == DILLUVAS_OK);
+            if (ends_at > 0) ends_at = 0;
             may_end(END);
             teller = -1;
         }
@@ -136,8 +137,8 @@ static void write_rounds(int to) {
 /* Before each call, how many processes ended in a rewriting. */
 static unsigned long ended[CALLS];
 
-/* Lets a process write for a while, kills it, and takes what it told last. */
-static void kill_one(told *last, unsigned long *rounds) {
+/* Lets a process write for a while, and kills it, or lets it end itself, and takes what it told last. */
+static void kill_one(told *last, unsigned long *rounds, bool ends_itself) {
     int ends[2], status;
     uint64_t id_before = last->id;
     told told;
@@ -147,12 +148,15 @@ static void kill_one(told *last, unsigned long *rounds) {
     if (child == 0) {
         close(ends[0]);
         srand((unsigned)getpid());
+        ends_at = ends_itself ? rand() % 16 : -1;
         write_rounds(ends[1]);
     }
     close(ends[1]);
-    struct timespec while_ = {0, (rand() % 30000) * 1000L};
-    nanosleep(&while_, NULL);
-    kill(child, SIGKILL);
+    if (!ends_itself) {
+        struct timespec while_ = {0, (rand() % 30000) * 1000L};
+        nanosleep(&while_, NULL);
+        kill(child, SIGKILL);
+    }
     CHECK(waitpid(child, &status, 0) == child && WIFSIGNALED(status) && WTERMSIG(status) == SIGKILL);
     while (read(ends[0], &told, sizeof told) == sizeof told) {
         if (told.round == 0) {
@@ -192,7 +196,7 @@ int main(int count, char **arguments) {
     unlink(path);
     srand(1);
     for (int i = 0; i < times; i++) {
-        kill_one(&last, &rounds);
+        kill_one(&last, &rounds, i % 2);
         compare(&last);
     }
     unlink(path);

@@ -16,6 +16,7 @@ import damage
 import inputs
 import judge
 import raw
+import rewriting
 
 # So many seconds may a script take before it is said to hang.
 LONGEST = 120
@@ -63,6 +64,7 @@ def main(arguments):
     if not arguments:
         with tempfile.TemporaryDirectory(dir=PLACE) as folder:
             inputs.run(folder)
+            rewriting.run(folder)
         assert run(Careless, 0, 30, collections.Counter(), tell=lambda _: None) > 0
     kinds = (judge.Script, count), (damage.Script, count // 4 or 1), (raw.Script, count // 2 or 1)
     failed = sum(run(kind, seed, times, counts) for kind, times in kinds)

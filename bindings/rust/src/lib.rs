@@ -17,7 +17,7 @@
 //! ```
 //!
 //! [`Cache::open`] opens one over a file, and [`Cache::on_device`] over anything that reads, writes and syncs bytes. [`Cache::pin`] opens a
-//! [`Batch`], of which a crash leaves all or nothing.
+//! [`Batch`], of which a crash leaves all or nothing. A log only grows, until [`Cache::compact`] rewrites it.
 //!
 //! Every method takes `&mut self`: a [`Cache`] may go to another thread, and is used by one at a time. It is `Send`, and not `Sync`.
 
