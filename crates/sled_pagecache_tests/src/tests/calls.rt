@@ -208,12 +208,26 @@ fn is_seen(stamp: u64, node: &Node, sight: &Sight) -> bool {
         Sight::Empty(at) => stamp == at && node.len() == 0,
         Sight::Pair(at, key, value) => stamp == at && is_pair(node, key, value),
         Sight::Holds(at, pairs) => stamp == at && node.len() == pairs,
+        Sight::Letters(at, letters) => stamp == at && is_spelled(node, letters),
         Sight::Between(lo, hi) => {
             node.prefix_len() == 1 && node.lo().as_slice() == lo && node.hi().as_slice() == hi
         }
         Sight::Leads(at, leaf) => stamp == at && is_index_over(node, leaf),
         _ => false,
     }
+}
+
+fn is_spelled(node: &Node, letters: &[u8]) -> bool {
+    if node.len() != letters.len() {
+        return false;
+    }
+    for (number, letter) in letters.iter().enumerate() {
+        let (stored, item) = node.pair(number);
+        if stored != [*letter].as_slice() || item != Item::Value(b"v") {
+            return false;
+        }
+    }
+    true
 }
 
 fn is_index_over(node: &Node, leaf: PageId) -> bool {

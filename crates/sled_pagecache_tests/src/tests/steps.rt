@@ -56,6 +56,8 @@ pub(super) enum Sight {
     Pair(u64, &'static [u8], &'static [u8]),
     // a node of so many pairs, at this stamp
     Holds(u64, usize),
+    // a node that gives each of these letters the value of `PAIR`, and has no other key, at this stamp
+    Letters(u64, &'static [u8]),
     // a node of the keys between these, of which the first byte is a prefix
     Between(&'static [u8], &'static [u8]),
     // an index that leads each key to this leaf, at this stamp
