@@ -3,16 +3,21 @@
 #
 # - a script through `sledpc`, over a log in memory and over a file: what it replies, and the file, are those of the script without the line
 #   that is replied to by `error memory`;
-# - `sledpc crew`, which answers all its calls or `error memory`.
+# - `sledpc crew`, which answers all its calls or `error memory`;
+# - tests of the cache, whose calls change nothing where they are refused, and are made again.
 #
 #     tools/refused.sh
 #
-# It takes the program that `rt ci` has built, or `rt run` in crates/sledpc. The status is 0 where all is so.
+# It takes the program and the tests that `rt ci` has built, or `rt run` in crates/sledpc and `rt test` in crates/sled_pagecache_tests. The
+# status is 0 where all is so.
 set -eu
 
 top=$(CDPATH='' cd -- "$(dirname -- "$0")/.." && pwd)
 program=$top/crates/sledpc/out/sledpc
-[ -x "$program" ] || { echo "refused.sh: there is no program $program"; exit 1; }
+tests=$top/crates/sled_pagecache_tests/out/sled_pagecache_tests_tests
+for built in "$program" "$tests"; do
+    [ -x "$built" ] || { echo "refused.sh: there is no program $built"; exit 1; }
+done
 
 # The files are in memory where they may: nothing is to outlive the machine here.
 if [ -z "${TMPDIR-}" ] && [ -w /dev/shm ]; then
@@ -256,6 +261,31 @@ each_of_crew() {
     echo "refused.sh: crew: passed, with each of $((n - 1)) requests refused"
 }
 
+# ---- tests
+
+# each_of_test NAME: it passes, and makes requests enough to have made its calls.
+each_of_test() {
+    n=1
+    while refusing "$n" "$tests" "tests::$1" >told 2>faults </dev/null; [ "$n" -le "$asked" ]; do
+        [ "$status:$(tail -n 1 told)" = '0:test result: ok' ] || fail "$1: request $n refused: status $status, $(cat told faults)"
+        n=$((n + 1))
+    done
+    [ "$n" -gt 10 ] || fail "$1: it makes $((n - 1)) requests only"
+    refused=$((refused + n - 1))
+}
+
+each_of_tests() {
+    refused=0
+    for name in faults::refuse_each_allocation memory::a_refused_allocation_leaves_a_batch_whole \
+        memory::a_refused_allocation_leaves_what_was_made_of_a_tree memory::a_refused_allocation_uses_no_id \
+        memory::refused_allocations_change_nothing rewriting::a_refused_allocation_leaves_the_next_rewriting \
+        sizes::a_refused_allocation_leaves_the_next_measure snapshots::a_refused_allocation_leaves_the_next_snapshot; do
+        each_of_test "$name"
+    done
+    echo "refused.sh: tests: passed, with each of $refused requests refused"
+}
+
 each_of_script mem
 each_of_script file
 each_of_crew
+each_of_tests
