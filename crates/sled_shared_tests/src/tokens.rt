@@ -59,7 +59,10 @@ fn opened_again(alloc: Global) -> Result<PageCache<MemLog>, Error>
         return Err(Error::Unsupported(Why::BatchOpen));
     }
     let log = cache.into_log().stop(0);
-    PageCache::start(alloc, CONFIG, log).map_err(|(error, _)| error)
+    match PageCache::start(alloc, CONFIG, log) {
+        Ok(cache) => Ok(cache),
+        Err((error, _)) => Err(error),
+    }
 }
 
 // Such a cache that is shared, where page 2 has stamp 5, a name has the root 5, all is flushed and the book is taken.
