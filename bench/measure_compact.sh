@@ -31,7 +31,7 @@ awk '
         return $2 ? "dilluvas, all pages in memory" : "dilluvas, next to none in memory"
     }
     BEGIN {
-        print "| store | MB before | MB behind | ms |"
+        print "| store | MB before | MB after | ms |"
         print "|---|---|---|---|"
     }
     { printf "| %s | %.1f | %.1f | %.0f |\n", name(), $3 / 1e6, $4 / 1e6, $5 }
