@@ -4,18 +4,19 @@
 # - a script through `sledpc`, over a log in memory and over a file: what it replies, and the file, are those of the script without the line
 #   that is replied to by `error memory`;
 # - `sledpc crew`, which answers all its calls or `error memory`;
-# - tests of the cache, whose calls change nothing where they are refused, and are made again.
+# - tests of the cache, and of the cache that threads share, whose calls change nothing where they are refused, and are made again.
 #
 #     tools/refused.sh
 #
-# It takes the program and the tests that `rt ci` has built, or `rt run` in crates/sledpc and `rt test` in crates/sled_pagecache_tests. The
-# status is 0 where all is so.
+# It takes the program and the tests that `rt ci` has built, or `rt run` in crates/sledpc and `rt test` in crates/sled_pagecache_tests and in
+# crates/sled_shared_tests. The status is 0 where all is so.
 set -eu
 
 top=$(CDPATH='' cd -- "$(dirname -- "$0")/.." && pwd)
 program=$top/crates/sledpc/out/sledpc
-tests=$top/crates/sled_pagecache_tests/out/sled_pagecache_tests_tests
-for built in "$program" "$tests"; do
+cache=$top/crates/sled_pagecache_tests/out/sled_pagecache_tests_tests
+shared=$top/crates/sled_shared_tests/out/sled_shared_tests_tests
+for built in "$program" "$cache" "$shared"; do
     [ -x "$built" ] || { echo "refused.sh: there is no program $built"; exit 1; }
 done
 
@@ -263,14 +264,14 @@ each_of_crew() {
 
 # ---- tests
 
-# each_of_test NAME: it passes, and makes requests enough to have made its calls.
+# each_of_test TESTS NAME: it passes, and makes requests enough to have made its calls.
 each_of_test() {
     n=1
-    while refusing "$n" "$tests" "tests::$1" >told 2>faults </dev/null; [ "$n" -le "$asked" ]; do
-        [ "$status:$(tail -n 1 told)" = '0:test result: ok' ] || fail "$1: request $n refused: status $status, $(cat told faults)"
+    while refusing "$n" "$1" "tests::$2" >told 2>faults </dev/null; [ "$n" -le "$asked" ]; do
+        [ "$status:$(tail -n 1 told)" = '0:test result: ok' ] || fail "$2: request $n refused: status $status, $(cat told faults)"
         n=$((n + 1))
     done
-    [ "$n" -gt 10 ] || fail "$1: it makes $((n - 1)) requests only"
+    [ "$n" -gt 10 ] || fail "$2: it makes $((n - 1)) requests only"
     refused=$((refused + n - 1))
 }
 
@@ -280,8 +281,9 @@ each_of_tests() {
         memory::a_refused_allocation_leaves_what_was_made_of_a_tree memory::a_refused_allocation_uses_no_id \
         memory::refused_allocations_change_nothing rewriting::a_refused_allocation_leaves_the_next_rewriting \
         sizes::a_refused_allocation_leaves_the_next_measure snapshots::a_refused_allocation_leaves_the_next_snapshot; do
-        each_of_test "$name"
+        each_of_test "$cache" "$name"
     done
+    each_of_test "$shared" refuse_each_allocation
     echo "refused.sh: tests: passed, with each of $refused requests refused"
 }
 

@@ -7,6 +7,7 @@
 //! - `faults`: a device that fails, and a share that is missing
 //! - `poor`: a log without room, and a damaged page
 //! - `replay`: entries that are made once more
+//! - `refused`: one list of calls, with each request for memory refused in turn
 //! - `rows`: books that are filled, taken and closed, and a batch that is cancelled
 //! - `tokens`: tokens that no call gave, and ids of every size
 //! - `readme`: the README's example
@@ -28,6 +29,8 @@ mod faults;
 mod poor;
 #[cfg(test)]
 mod readme;
+#[cfg(test)]
+mod refused;
 #[cfg(test)]
 mod replay;
 #[cfg(test)]

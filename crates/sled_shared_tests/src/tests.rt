@@ -3,6 +3,7 @@ use crate::crews::{asked_by_four, crew_of};
 use crate::entered::{add_entries, texts_of};
 use crate::faults::{kept_before, kept_error};
 use crate::poor::poor;
+use crate::refused::goes_on;
 use crate::replay::replayed;
 use crate::rows::{FULL, answers_in_a_row, are, batch_rows, end_so, rows};
 use crate::tokens::{strange, strange_again};
@@ -171,4 +172,9 @@ fn no_strange_token_changes_a_page(rt: HostRuntime) {
         let again = strange_again::<Brand, _>(&rt, rt.alloc(), &book, Blank::new(2), 2);
         assert_eq!(rt; again, Some(texts));
     }
+}
+
+#[test]
+fn refuse_each_allocation(rt: HostRuntime) {
+    assert_eq!(rt; goes_on(&rt, rt.alloc()), Some(true));
 }
