@@ -1,5 +1,5 @@
 -- The log is empty, so it is known what is opened of it.
-use Rattle.std.proofs.Common.{ap, refl}
+use Rattle.std.proofs.Common.{ap}
 use Rattle.sled_log.specs.LogState.{LogState}
 use Rattle.sled_log.specs.Messages.{Entry}
 use Rattle.sled_log.specs.contracts.memory.calls.MemLogLog.TheImpl as mem
