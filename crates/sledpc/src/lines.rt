@@ -30,6 +30,46 @@ pub enum ReadError {
     Memory,
 }
 
+/// How many bytes the reader has buffered up to the end of its last whole line, as far as that is known, or else 0.
+///
+/// It spares looking for the end of each line twice. It is a hint: contracts say nothing of it.
+#[derive(Clone, Copy)]
+pub struct Ahead(usize);
+
+impl Ahead {
+    /// Nothing is known of what is buffered.
+    pub fn unknown() -> Ahead {
+        Ahead(0)
+    }
+
+    // Passes over so many bytes, behind which these are buffered, and answers whether a whole line is among them.
+    fn pass(&mut self, count: usize, behind: &[u8]) -> bool {
+        if self.0 > count {
+            self.0 -= count;
+            return true;
+        }
+        self.0 = last_end(behind);
+        self.0 > 0 || behind.contains(&b'\n')
+    }
+
+    // Forgets what is buffered, as bytes are passed over that nobody looked at.
+    fn forget(&mut self) {
+        self.0 = 0;
+    }
+}
+
+/// How many of the last bytes are looked at for the end of a line.
+const WINDOW: usize = 256;
+
+/// How many bytes there are up to the last end of a line, or 0 where none is among the last [`WINDOW`] bytes.
+fn last_end(bytes: &[u8]) -> usize {
+    let start = bytes.len().saturating_sub(WINDOW);
+    match bytes[start..].iter().rposition(|byte| *byte == b'\n') {
+        Some(place) => start.saturating_add(place).saturating_add(1),
+        None => 0,
+    }
+}
+
 /// What ended a part of a line.
 #[derive(Clone, Copy)]
 enum Ended {
@@ -45,7 +85,11 @@ enum Ended {
 ///
 /// At [`ReadError::Memory`] an allocation failed for bytes that the reader still has. At [`ReadError::Read`] the input was not
 /// read behind what was kept.
-pub fn read_line<R: BufRead>(reader: &mut R, kept: &mut Vec<u8>) -> Result<Line, ReadError>
+pub fn read_line<R: BufRead>(
+    reader: &mut R,
+    ahead: &mut Ahead,
+    kept: &mut Vec<u8>,
+) -> Result<Line, ReadError>
     ensures reads { ReadsLine (R.remaining reader.old) (R.remaining reader.new) result
         kept.new.items }
     ensures whole { (is_followed : Bool) → result ≡ Ok (Line.Whole is_followed)
@@ -56,7 +100,7 @@ pub fn read_line<R: BufRead>(reader: &mut R, kept: &mut Vec<u8>) -> Result<Line,
 {
     kept.clear();
     for _ in 0..u64::MAX {
-        match take_part(reader, kept)? {
+        match take_part(reader, ahead, kept)? {
             Ended::Line { is_followed } => return Ok(Line::Whole { is_followed }),
             Ended::Input if kept.is_empty() => return Ok(Line::End),
             Ended::Input => return Ok(Line::Whole { is_followed: false }),
@@ -71,7 +115,11 @@ pub fn read_line<R: BufRead>(reader: &mut R, kept: &mut Vec<u8>) -> Result<Line,
 }
 
 /// Takes what the reader has buffered of a line, behind what was kept of it, and no more than says that it is too long.
-fn take_part<R: BufRead>(reader: &mut R, kept: &mut Vec<u8>) -> Result<Ended, ReadError>
+fn take_part<R: BufRead>(
+    reader: &mut R,
+    ahead: &mut Ahead,
+    kept: &mut Vec<u8>,
+) -> Result<Ended, ReadError>
     requires { length kept.old.items ≤ longest_line }
     ensures takes { TakesPart (R.remaining reader.old) (R.remaining reader.new) kept.old.items
         kept.new.items result }
@@ -92,11 +140,12 @@ fn take_part<R: BufRead>(reader: &mut R, kept: &mut Vec<u8>) -> Result<Ended, Re
     let count = part.len();
     match behind {
         Some(_) => {
-            let is_followed = buffered[count + 1..].contains(&b'\n');
+            let is_followed = ahead.pass(count + 1, &buffered[count + 1..]);
             reader.consume(count + 1);
             Ok(Ended::Line { is_followed })
         }
         None => {
+            ahead.forget();
             reader.consume(count);
             Ok(Ended::Part)
         }

@@ -2,7 +2,7 @@
 
 mod readme;
 
-use crate::lines::{Line, read_line};
+use crate::lines::{Ahead, Line, read_line};
 use crate::output::{
     Unwritten, gather_bytes_word, gather_number, gather_text, write_out, write_text,
 };
@@ -110,29 +110,62 @@ fn encode_pairs(
 /// A line that no other follows.
 const LAST: Line = Line::Whole { is_followed: false };
 
+/// A line that another follows.
+const FOLLOWED: Line = Line::Whole { is_followed: true };
+
 // Whether the next line of the input is found to be this, and kept so.
-fn finds(input: &mut &[u8], kept: &mut Vec<u8>, want: Line, text: &str) -> bool {
-    read_line(input, kept) == Ok(want) && kept.as_slice() == text.as_bytes()
+fn finds(input: &mut &[u8], ahead: &mut Ahead, kept: &mut Vec<u8>, want: Line, text: &str) -> bool {
+    read_line(input, ahead, kept) == Ok(want) && kept.as_slice() == text.as_bytes()
 }
 
-// Whether a line of so many bytes is found to be this, and "b" behind it to be the last line. At most so many bytes are
-// kept, and of a whole line all.
-fn finds_long(alloc: Global, count: usize, want: Line) -> Result<bool, AllocError> {
+/// A line, and how it is found.
+type Found = (&'static str, Line);
+
+// Whether a line of so many bytes is found to be this, and the lines before and behind it to be these. Where none is behind it, it has no
+// newline. At most so many bytes are kept, and of a whole line all.
+fn finds_long(
+    alloc: Global,
+    before: &[Found],
+    count: usize,
+    want: Line,
+    behind: &[Found],
+) -> Result<bool, AllocError> {
     let mut text = Vec::new(alloc);
+    for (line, _) in before {
+        text.extend_from_slice(line.as_bytes())?;
+        text.push(b'\n')?;
+    }
     for _ in 0..count {
         text.push(b'x')?;
     }
-    text.extend_from_slice(b"\nb\n")?;
+    for (line, _) in behind {
+        text.push(b'\n')?;
+        text.extend_from_slice(line.as_bytes())?;
+    }
     let mut input = text.as_slice();
+    let mut ahead = Ahead::unknown();
     let mut kept = Vec::new(alloc);
-    let is_found = read_line(&mut input, &mut kept) == Ok(want);
+    let are_before = find_all(&mut input, &mut ahead, &mut kept, before);
+    let is_found = read_line(&mut input, &mut ahead, &mut kept) == Ok(want);
     let is_kept = kept.len() == count || (want == Line::TooLong && kept.len() < count);
+    let are_behind = find_all(&mut input, &mut ahead, &mut kept, behind);
     Ok(
-        is_found
+        are_before
+            && is_found
             && is_kept
-            && finds(&mut input, &mut kept, LAST, "b")
-            && finds(&mut input, &mut kept, Line::End, ""),
+            && are_behind
+            && finds(&mut input, &mut ahead, &mut kept, Line::End, ""),
     )
+}
+
+// Whether the next lines of the input are found to be these.
+fn find_all(input: &mut &[u8], ahead: &mut Ahead, kept: &mut Vec<u8>, lines: &[Found]) -> bool {
+    for (line, want) in lines {
+        if !finds(input, ahead, kept, *want, line) {
+            return false;
+        }
+    }
+    true
 }
 
 // Whether a writer with so much room takes as much of the text, a byte a write, without an error where it takes all.
@@ -276,19 +309,18 @@ fn reads_lines(rt: HostRuntime) {
     for (text, lines) in [
         (
             "a\n\nb\r\nc",
-            &[("a", true), ("", true), ("b\r", false), ("c", false)] as &[(&str, bool)],
+            &[("a", FOLLOWED), ("", FOLLOWED), ("b\r", LAST), ("c", LAST)] as &[Found],
         ),
-        ("a\n", &[("a", false)]),
+        ("a\n", &[("a", LAST)]),
     ] {
         let mut input = text.as_bytes();
-        for (line, is_followed) in lines {
-            let want = Line::Whole {
-                is_followed: *is_followed,
-            };
-            assert!(rt; finds(&mut input, &mut kept, want, line), "at {line}");
-        }
+        let mut ahead = Ahead::unknown();
         assert!(rt;
-            finds(&mut input, &mut kept, Line::End, ""),
+            find_all(&mut input, &mut ahead, &mut kept, lines),
+            "in {text}"
+        );
+        assert!(rt;
+            finds(&mut input, &mut ahead, &mut kept, Line::End, ""),
             "behind {text}"
         );
     }
@@ -296,9 +328,27 @@ fn reads_lines(rt: HostRuntime) {
 
 #[test]
 fn reads_long_lines(rt: HostRuntime) -> Result<(), Fail> {
-    let whole = Line::Whole { is_followed: true };
-    for (count, want) in [(65_536, whole), (65_537, Line::TooLong)] {
-        assert!(rt; finds_long(rt.alloc(), count, want)?, "of {count} bytes");
+    let one: &[Found] = &[("a", FOLLOWED)];
+    let two: &[Found] = &[("a", FOLLOWED), ("b", LAST)];
+    for (before, count, want, behind) in [
+        (one, 255, LAST, &[("b", LAST)] as &[Found]),
+        (one, 65_536, FOLLOWED, &[("b", LAST), ("c", LAST)]),
+        (
+            one,
+            65_537,
+            Line::TooLong,
+            &[("b", FOLLOWED), ("c", LAST), ("d", LAST)],
+        ),
+        (two, 255, LAST, &[]),
+        (two, 256, LAST, &[]),
+        (two, 257, LAST, &[]),
+        (two, 65_536, LAST, &[]),
+        (two, 65_537, Line::TooLong, &[]),
+    ] {
+        assert!(rt;
+            finds_long(rt.alloc(), before, count, want, behind)?,
+            "of {count} bytes"
+        );
     }
     Ok(())
 }

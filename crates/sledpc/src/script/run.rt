@@ -8,7 +8,7 @@ ghost use Rattle.sledpc.specs.Served.{ServesAll, ServesUntil};
 use super::batch::serve_batch;
 use super::command::Mark;
 use super::line::serve_line;
-use crate::lines::{Line, ReadError, read_line};
+use crate::lines::{Ahead, Line, ReadError, read_line};
 use crate::output::{Unwritten, flush, gather_text, write_out, write_rest};
 use crate::piece::Piece;
 use sled_pagecache::{Log, PageCache};
@@ -147,8 +147,9 @@ pub fn serve_until<L: Log, R: BufRead, W: Write>(
     ensures batch { cache.new.batch ≡ cache.old.batch }
 {
     let mut line = Vec::new(alloc);
+    let mut ahead = Ahead::unknown();
     for _ in 0..u64::MAX {
-        let is_followed = match read_line(reader, &mut line)? {
+        let is_followed = match read_line(reader, &mut ahead, &mut line)? {
             Line::End => return Ok(Stop::End),
             Line::Whole { is_followed } => {
                 if let Some(mark) = serve_line(alloc, cache, &line, writer, piece)? {

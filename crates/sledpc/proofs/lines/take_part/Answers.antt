@@ -13,7 +13,7 @@ returns-in-Some-clause-takes g c =
     let within : c.min.result ≤ length c.in-Ok.buffered.now = grind arith in
     let grown : c.extend_from_slice.new.self.items ≡ c.args.kept.now.items ++ part = grind arith in
     line_part _ (g.R.Read.remaining rested) (g.R.Read.remaining c.consume.new.self) (g.R.BufRead.consumable_len rested) c.in-Ok.buffered.now c.args.kept.now.items c.extend_from_slice.new.self.items part c.min.result within grown cut.0
-    c.in-Ok.ensures.front c.in-Ok.ensures.end filled.0 filled.1 c.contains-is_followed.result c.in-Some.field-0.now cut.1 c.consume.ensures.bytes
+    c.in-Ok.ensures.front c.in-Ok.ensures.end filled.0 filled.1 c.pass-is_followed.result c.in-Some.field-0.now cut.1 c.consume.ensures.bytes
 
 pub returns-in-Some-clause-fits : goal.returns-in-Some-clause-fits
 returns-in-Some-clause-fits g c =
