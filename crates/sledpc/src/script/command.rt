@@ -36,8 +36,8 @@ pub fn leaf_behind(alloc: Global, pairs: Option<&[u8]>) -> Result<Option<Node>, 
     }
 }
 
-// The leaf of the pairs that these words encode.
-fn leaf_in(alloc: Global, words: &[u8]) -> Result<Option<Node>, AllocError>
+/// `PAIRS`: the leaf of these pairs.
+pub fn leaf_in(alloc: Global, words: &[u8]) -> Result<Option<Node>, AllocError>
     ensures some { IfOk result (λ found. IfSome found (EncodeLeaf (Some words.now))) }
     ensures none { IfOk result
         (λ found. IfNone found ((node : WholeNode) → ¬ EncodeLeaf (Some words.now) node)) }

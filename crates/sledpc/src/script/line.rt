@@ -2,6 +2,7 @@
 
 ghost use Rattle.std.specs.Prelude.{◌≡◌, ◌++◌, ◌∷◌, [], ◌≤◌, None, Some, codes, length};
 ghost use Rattle.std.specs.Option.{option_map};
+ghost use Rattle.sled_node.specs.Node.{empty_leaf};
 ghost use Rattle.sledpc.specs.Commands.{mark_word};
 ghost use Rattle.sledpc.specs.Output.{Gathers};
 ghost use Rattle.sledpc.specs.Served.{RepliesTo, RepliesLine, RepliesBehind, answered};
@@ -11,14 +12,14 @@ ghost use Rattle.sled_pagecache.specs.declared.pagecache.handles.call.Call.TheVa
 
 use super::batch::pin_again;
 use super::command::{
-    Mark, cas_behind, del_behind, free_behind, leaf_behind, replace_behind, set_behind,
+    Mark, cas_behind, del_behind, free_behind, leaf_in, replace_behind, set_behind,
 };
 use super::reply::{LentAnswer, gather_line, gather_mark, gather_swap, gather_tree};
 use super::run::RunError;
 use super::words::{bytes_of, first_word, number_of};
 use crate::output::{Unwritten, gather_text};
 use crate::piece::Piece;
-use sled_pagecache::{Link, Log, PageCache, PageView, open_tree};
+use sled_pagecache::{Link, Log, Node, PageCache, PageView, open_tree};
 use std::alloc::Global;
 use std::io::Write;
 
@@ -59,7 +60,7 @@ fn serve_word<L: Log, W: Write>(
         b"id" => answered(serve_id(cache, writer, piece)),
         b"pin" => serve_mark(cache, Mark::Pin, writer, piece),
         b"seal" => serve_mark(cache, Mark::Seal, writer, piece),
-        b"alloc" => serve_alloc(alloc, cache, None, writer, piece),
+        b"alloc" => answered(serve_alloc_empty(alloc, cache, writer, piece)),
         b"flush" => answered(serve_flush(cache, writer, piece)),
         b"gc" => answered(serve_gc(cache, writer, piece)),
         b"amp" => answered(serve_amp(cache, writer, piece)),
@@ -86,7 +87,7 @@ fn serve_words<L: Log, W: Write>(
         b"get" => serve_get(cache, words, writer, piece),
         b"set" => serve_set(alloc, cache, words, writer, piece),
         b"del" => serve_del(alloc, cache, words, writer, piece),
-        b"alloc" => serve_alloc(alloc, cache, Some(words), writer, piece),
+        b"alloc" => serve_alloc(alloc, cache, words, writer, piece),
         b"free" => serve_free(cache, words, writer, piece),
         b"cas" => serve_cas(alloc, cache, words, writer, piece),
         b"root" => serve_root(alloc, cache, words, writer, piece),
@@ -188,19 +189,33 @@ fn serve_del<L: Log, W: Write>(
     }
 }
 
-// `alloc PAIRS`, or `alloc`
+// `alloc`
+fn serve_alloc_empty<L: Log, W: Write>(
+    alloc: Global,
+    cache: &mut PageCache<L>,
+    writer: &mut W,
+    piece: &mut Piece,
+) -> Result<(), Unwritten>
+    ensures { RepliesTo L.Log cache.old (calls.Allocate empty_leaf) (W.contents writer.old)
+        (W.contents writer.new) piece.old piece.new result cache.new }
+{
+    let answer = cache.allocate(Node::default(alloc));
+    gather_line(writer, piece, LentAnswer::Allocated(&answer))
+}
+
+// `alloc PAIRS`
 fn serve_alloc<L: Log, W: Write>(
     alloc: Global,
     cache: &mut PageCache<L>,
-    pairs: Option<&[u8]>,
+    words: &[u8],
     writer: &mut W,
     piece: &mut Piece,
 ) -> Result<Option<Mark>, RunError>
-    ensures replies { RepliesBehind L.Log cache.old (codes "alloc") (option_map (λ rest. rest.now) pairs.entry)
+    ensures replies { RepliesBehind L.Log cache.old (codes "alloc") (Some words.now)
         (W.contents writer.old) (W.contents writer.new) piece.old piece.new result cache.new }
     ensures batch { cache.new.batch ≡ cache.old.batch }
 {
-    match leaf_behind(alloc, pairs)? {
+    match leaf_in(alloc, words)? {
         Some(node) => {
             let answer = cache.allocate(node);
             answered(gather_line(writer, piece, LentAnswer::Allocated(&answer)))

@@ -1,5 +1,4 @@
-use Rattle.std.proofs.Common.{map, arith, codes, refl}
-use Rattle.std.specs.Option.{option_map}
+use Rattle.std.proofs.Common.{map, arith, codes, refl, Some}
 use Rattle.sled_pagecache.specs.declared.pagecache.handles.call.Answer.TheVariants.{Allocated}
 use Rattle.sled_pagecache.specs.declared.pagecache.handles.call.Call.TheVariants.{Allocate}
 use Rattle.sled_pagecache.specs.declared.pagecache.handles.call.Call.{Call}
@@ -12,7 +11,7 @@ use Rattle.sledpc.proofs.script.line.serve_alloc.Goals as goal
 pub returns-in-Some-clause-replies : goal.returns-in-Some-clause-replies
 returns-in-Some-clause-replies g c =
     let leaf = rw c.in-Some.is at c.in_ok-node.ensures.some in
-    let asks : AsksBehind (codes "alloc") (option_map (λ rest. rest.now) c.args.pairs) (Allocate c.in-Some.node) = (map pair_word leaf.0, (leaf.0, leaf.1, refl), leaf.2) in
+    let asks : AsksBehind (codes "alloc") (Some c.args.words.now) (Allocate c.in-Some.node) = (map pair_word leaf.0, (leaf.0, leaf.1, refl), leaf.2) in
     let allocated = c.allocate-answer.ensures in
     rw c.answered.ensures (made_behind g.L.Log c.args.cache.now _ _ _ _ _ c.gather_line.result (codes "alloc") _ (Allocate c.in-Some.node) asks (record {
       answer = Allocated c.allocate-answer.result;
@@ -23,5 +22,5 @@ returns-in-Some-clause-replies g c =
 
 pub returns-in-None-clause-replies : goal.returns-in-None-clause-replies
 returns-in-None-clause-replies g c =
-    let none : (call : Call) → ¬ AsksBehind (codes "alloc") (option_map (λ rest. rest.now) c.args.pairs) call = λ call asked. let other = allocate_asked _ call asked in (rw c.in-None.is at c.in_ok-node.ensures.none) other.node other.leaf in
+    let none : (call : Call) → ¬ AsksBehind (codes "alloc") (Some c.args.words.now) call = λ call asked. let other = allocate_asked _ call asked in (rw c.in-None.is at c.in_ok-node.ensures.none) other.node other.leaf in
     rw c.answered-in-None.ensures (refused_behind g.L.Log c.args.cache.now _ _ _ _ _ c.refuse.result (codes "alloc") _ refl (omega arith, omega arith, omega arith, omega arith) none c.refuse.ensures)

@@ -2,7 +2,8 @@
 use Rattle.std.proofs.Common.{◌≡◌, [], ◌∷◌, arith, codes, refl, subst, sym}
 use Rattle.std.proofs.lemmas.Grind.{common_steps}
 use Rattle.sled_pagecache.specs.declared.pagecache.handles.call.Call.TheVariants as calls
-use Rattle.sledpc.specs.Commands.{Encodes}
+use Rattle.sled_node.specs.Node.{empty_leaf}
+use Rattle.sledpc.specs.Commands.{Encodes, IsLeafOf}
 use Rattle.sledpc.proofs.Commands.{no_word, six_bytes}
 use Rattle.sledpc.proofs.Replied.{made_line, no_command_of_word, refused_line}
 use Rattle.sledpc.proofs.script.line.serve_word.Goals as goal
@@ -30,6 +31,13 @@ returns-in-size-clause-replies g c =
     let word : c.args.word.now ≡ codes "size" = grind (arith, common_steps) in
     let encodes : Encodes c.args.word.now calls.SizeOnDisk = subst (λ line. Encodes line calls.SizeOnDisk) (sym word) (omega arith, (codes "size" ∷ [], refl, refl)) in
     rw c.answered-in-size.ensures (made_line g.L.Log c.args.cache.now _ _ _ _ _ c.serve_size.result _ calls.SizeOnDisk encodes c.serve_size.ensures)
+
+pub returns-in-alloc-clause-replies : goal.returns-in-alloc-clause-replies
+returns-in-alloc-clause-replies g c =
+    let word : c.args.word.now ≡ codes "alloc" = grind (arith, common_steps) in
+    let leaf : IsLeafOf [] empty_leaf = record { bytes = tt; fits = record { ascending = tt; few = omega arith; keys = tt; items = tt }; leaf = refl } in
+    let encodes : Encodes c.args.word.now (calls.Allocate empty_leaf) = subst (λ line. Encodes line (calls.Allocate empty_leaf)) (sym word) (omega arith, (codes "alloc" ∷ [], ([], leaf, refl), refl)) in
+    rw c.answered-in-alloc.ensures (made_line g.L.Log c.args.cache.now _ _ _ _ _ c.serve_alloc_empty.result _ (calls.Allocate empty_leaf) encodes c.serve_alloc_empty.ensures)
 
 pub returns-in-flush-clause-replies : goal.returns-in-flush-clause-replies
 returns-in-flush-clause-replies g c =
