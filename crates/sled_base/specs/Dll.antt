@@ -36,3 +36,11 @@ pub record IsPromoted (slot : Slot) (old new : List Listed) : Type 0 where
   pub after : List Listed
   pub is : old ≡ before ++ listed slot item ∷ after
   pub then : new ≡ listed slot item ∷ before ++ after
+
+-- The slot gets another item, which stands first, and the others stand behind it in their order.
+pub record IsRenewed (slot : Slot) (item : ℕ) (old new : List Listed) : Type 0 where
+  pub before : List Listed
+  pub was : ℕ
+  pub after : List Listed
+  pub is : old ≡ before ++ listed slot was ∷ after
+  pub then : new ≡ listed slot item ∷ before ++ after

@@ -16,4 +16,3 @@ pub mod OptionalSlots
 pub mod Lru
 pub mod LruLaws
 pub mod Shards
-pub mod Entries

@@ -1,44 +1,56 @@
 -- What a shard of a list of recent use keeps.
-use Rattle.std.specs.Prelude.{◌≡◌, ◌<◌, ◌≤◌, ◌+◌, ◌^◌, ◌⊎◌, ◌/◌, ℕ, Option, Some, None, List, [], ◌∷◌, ◌++◌, length, map, slice_index_or, Contains}
+use Rattle.std.specs.Prelude.{◌≡◌, ◌<◌, ◌≤◌, ◌+◌, ◌*◌, ◌^◌, ◌⊎◌, ◌/◌, ◌%◌, ℕ, Option, Some, None, List, [], ◌∷◌, ◌++◌, length, map, slice_index_or, Contains}
 use Rattle.std.specs.List.{AllByRecursion}
-use Rattle.sled_base.specs.Dll.{Listed, listed, slots, AreDistinct, IsPromoted}
-use Rattle.sled_base.specs.Limits.{shard_count}
+use Rattle.sled_base.specs.Dll.{Listed, listed, slots, AreDistinct, IsRenewed}
+use Rattle.sled_base.specs.Limits.{shard_count, exponent_count}
 use Rattle.sled_base.specs.Lru.{Listing, listing, total, others, IsTooMuch, IsWithin, AreApart}
 use Rattle.sled_base.specs.declared.dll.Slot.{Slot}
-use Rattle.sled_base.specs.declared.lru.entry.Entry.{Entry}
 
 -- how much a shard may take, and what it lists
 pub record Shelf : Type 0 where
   pub capacity : ℕ
   pub listings : List Listing
 
-abbrev pub entry_at : List (Option Entry) → ℕ → Option Entry
+-- an item of the list: a place, and the exponent of its size
+abbrev pub item_of : ℕ → ℕ → ℕ
+item_of place exponent = place * exponent_count + exponent
+
+abbrev pub place_in : ℕ → ℕ
+place_in item = item / exponent_count
+
+abbrev pub size_in : ℕ → ℕ
+size_in item = 2 ^ (item % exponent_count)
+
+-- what is listed
+abbrev pub listings_of : List Listed → List Listing
+listings_of list = map (λ x. listing (place_in x.item) (size_in x.item)) list
+
+-- the slot of a place
+abbrev pub entry_at : List (Option Slot) → ℕ → Option Slot
 entry_at entries place = slice_index_or entries place None
 
-abbrev pub entry_size : Option Entry → ℕ
-entry_size None = 0
-entry_size (Some entry) = entry.size
+-- the entry of the item's place names the item's slot
+abbrev pub HasSlot : List (Option Slot) → Listed → Type 0
+HasSlot entries x = entry_at entries (place_in x.item) ≡ Some x.slot
 
--- what is listed, with the sizes of the entries
-abbrev pub listings_of : List (Option Entry) → List Listed → List Listing
-listings_of entries list = map (λ x. listing x.item (entry_size (entry_at entries x.item))) list
-
--- the place has an entry, which names the slot
-abbrev pub HasSlot : List (Option Entry) → Listed → Type 0
-HasSlot entries x = (size : ℕ) × (entry_at entries x.item ≡ Some (record { slot = x.slot; size = size }))
+-- an item of the place stands in the slot
+pub record StandsAt (place : ℕ) (slot : Slot) (list : List Listed) : Type 0 where
+  pub item : ℕ
+  pub there : Contains list (listed slot item)
+  pub is : place_in item ≡ place
 
 -- Each place that is listed has an entry with its slot, and no other place has one. The sizes add up to the sum.
-pub record IsIndexed (entries : List (Option Entry)) (list : List Listed) (sum : ℕ) : Type 0 where
+pub record IsIndexed (entries : List (Option Slot)) (list : List Listed) (sum : ℕ) : Type 0 where
   pub named : AllByRecursion (HasSlot entries) list
-  pub there : (place : ℕ) (entry : Entry) → entry_at entries place ≡ Some entry → Contains list (listed entry.slot place)
+  pub there : (place : ℕ) (slot : Slot) → entry_at entries place ≡ Some slot → StandsAt place slot list
   pub distinct : AreDistinct (slots list)
-  pub sum_is : sum ≡ total (listings_of entries list)
+  pub sum_is : sum ≡ total (listings_of list)
   pub few : length entries ≤ 2 ^ 56
 
--- The place stands first in the list, with the slot of its entry, or with one that no other has.
-abbrev pub PutsFirst : Slot → ℕ → Option Entry → List Listed → List Listed → Type 0
-PutsFirst slot place None old new = (¬ Contains (slots old) slot) × (new ≡ listed slot place ∷ old)
-PutsFirst slot place (Some entry) old new = (slot ≡ entry.slot) × IsPromoted slot old new
+-- The item stands first in the list, in the slot of its place's entry, or in one that no other has.
+abbrev pub PutsFirst : Slot → ℕ → Option Slot → List Listed → List Listed → Type 0
+PutsFirst slot item None old new = (¬ Contains (slots old) slot) × (new ≡ listed slot item ∷ old)
+PutsFirst slot item (Some named) old new = (slot ≡ named) × IsRenewed slot item old new
 
 -- So many of the others leave for a place of that size.
 pub record IsCut (capacity place size : ℕ) (old : List Listing) (count : ℕ) : Type 0 where

@@ -4,7 +4,7 @@
 //! by its slot in constant time, and that allocates nothing.
 
 ghost use Rattle.std.specs.Prelude.{◌≡◌, ◌↔◌, [], ◌∷◌, ◌++◌, length, List, ℕ, IsTrue, IfOk, OnErr, IfSome, IfNone, Contains, Some};
-ghost use Rattle.sled_base.specs.Dll.{Listed, listed, slots, items, last_slot, AreDistinct, IsPromoted};
+ghost use Rattle.sled_base.specs.Dll.{Listed, listed, slots, items, last_slot, AreDistinct, IsPromoted, IsRenewed};
 ghost use Rattle.sled_base.specs.declared.dll.Slot.{Slot};
 
 mod links;
@@ -107,6 +107,23 @@ impl DoublyLinkedList {
         let item = self.links.unlink(slot);
         self.links.link_head(slot, item);
         slot
+    }
+
+    /// Puts another item in place of that of the slot, at the head. The slot has to be live.
+    ///
+    /// It allocates nothing.
+    pub(crate) fn renew(&mut self, slot: Slot, other: PageId)
+        requires { Contains (slots self.old) slot }
+        ensures { IsRenewed slot other self.old self.new }
+    {
+        if let Some(first) = self.links.first()
+            && first.0 == slot.0
+            && self.item(slot) == other
+        {
+            return;
+        }
+        self.links.unlink(slot);
+        self.links.link_head(slot, other);
     }
 
     /// Removes the item at the tail and answers it, or None where the list is empty. Its slot isn't live any more.

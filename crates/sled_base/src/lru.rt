@@ -4,10 +4,10 @@
 //! the most recently used on.
 
 ghost use Rattle.std.specs.Prelude.{◌≡◌, ◌<◌, ◌≤◌, ◌+◌, ◌*◌, ◌^◌, map, All, IfOk, IfErr, IsOk, OnOk, OnErr, Ok, Err};
-ghost use Rattle.sled_base.specs.Limits.{shard_count};
+ghost use Rattle.sled_base.specs.Limits.{shard_count, exponent_count};
 ghost use Rattle.sled_base.specs.Lru.{rounded, IsAccessed, IsListed, IsSound, IsUnused};
 
-mod entry;
+mod item;
 mod shard;
 
 use crate::{Error, PageId, Why};
@@ -95,7 +95,7 @@ impl Lru {
     {
         let number = id % SHARDS;
         let shard = &mut self.shards[number as usize];
-        shard.accessed(id / SHARDS, rounded_up(size), gone)?;
+        shard.accessed(id / SHARDS, exponent(size), gone)?;
         number_pages(gone, number);
         Ok(())
     }
@@ -108,6 +108,15 @@ pub fn rounded_up(size: u64) -> u64
     ensures bound { result ≤ 2 ^ 63 }
 {
     size.next_power_of_two()
+}
+
+// The exponent of the size as a list of recent use counts it.
+fn exponent(size: u64) -> u32
+    requires { size ≤ 2 ^ 63 }
+    ensures value { 2 ^ result ≡ rounded size }
+    ensures bound { result < exponent_count }
+{
+    rounded_up(size).ilog2()
 }
 
 // Turns places in a shard into page ids.

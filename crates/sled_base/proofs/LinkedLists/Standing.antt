@@ -4,7 +4,7 @@ use Rattle.std.specs.Prelude.{Contains, IfSome, IfNone}
 use Rattle.std.proofs.lemmas.Bool.{cases_Bool, eqb-true}
 use Rattle.std.proofs.lemmas.Option.{none-some, same_Some}
 use Rattle.std.proofs.lemmas.List.{map-append}
-use Rattle.sled_base.specs.Dll.{Listed, listed, slots, last_slot_or, last_slot, AreDistinct, IsPromoted}
+use Rattle.sled_base.specs.Dll.{Listed, listed, slots, last_slot_or, last_slot, AreDistinct, IsPromoted, IsRenewed}
 use Rattle.sled_base.specs.Links.{first_slot_or, times, TakesOut}
 use Rattle.sled_base.specs.declared.dll.Slot.{Slot}
 
@@ -148,4 +148,29 @@ promotes slot item found old middle new same live taken is =
       after = stands.back;
       is = stands.is;
       then = is ∙ rw (out.0, out.1) refl;
+    }
+
+-- the same under another item
+pub renews-first : (slot first : Slot) (item other : ℕ) (list : List Listed) → first_slot_or None list ≡ Some first → first.0 ≡ slot.0 → item ≡ other → ((front back : List Listed) (x : ℕ) → list ≡ front ++ listed slot x ∷ back → item ≡ x) → IsRenewed slot other list list
+renews-first slot first item other list is same equal item_is =
+    let promoted = promotes-first slot first list is same in
+    let kept : promoted.item ≡ other = sym (item_is promoted.before promoted.after promoted.item promoted.is) ∙ equal in
+    record {
+      before = promoted.before;
+      was = promoted.item;
+      after = promoted.after;
+      is = promoted.is;
+      then = promoted.then ∙ ap (λ x. listed slot x ∷ (promoted.before ++ promoted.after)) kept;
+    }
+
+pub renews : (slot : Slot) (item other : ℕ) (found old middle new : List Listed) → found ≡ old → Contains (slots old) slot → TakesOut slot item found middle → new ≡ listed slot other ∷ middle → IsRenewed slot other old new
+renews slot item other found old middle new same live taken is =
+    let promoted = promotes slot item found old middle (listed slot item ∷ middle) same live taken refl in
+    let out = taken promoted.before promoted.after promoted.item (same ∙ promoted.is) in
+    record {
+      before = promoted.before;
+      was = promoted.item;
+      after = promoted.after;
+      is = promoted.is;
+      then = is ∙ ap (λ list. listed slot other ∷ list) out.1;
     }

@@ -44,3 +44,32 @@ rounded_bound size power k is half small = elim (cases_lt k 64) [
   | inl lt ↦ omega (arith, is, pow-le-pow_right {n = 2} (omega arith) {i = k} {j = 63} (omega arith))
   | inr le ↦ absurd (omega (arith, is, half, pow-le-pow_right {n = 2} (omega arith) {i = 64} {j = k} le))
 ]
+
+-- ---- its exponent
+
+pub record IsPower (n : ℕ) : Type 0 where
+  pub exponent : ℕ
+  pub is : n ≡ 2 ^ exponent
+
+doubled_power : (n size j : ℕ) → IsPower (doubled_to n size (2 ^ j))
+doubled_power zero size j = record { exponent = j; is = refl }
+doubled_power (suc n) size j = of_test (nat_le size (2 ^ j)) (doubled_power n size (suc j))
+  where
+    of_test : (b : Bool) → IsPower (doubled_to n size (2 ^ suc j)) → IsPower (elim b [ true ↦ 2 ^ j | false ↦ doubled_to n size (2 * 2 ^ j) ])
+    of_test true rest = record { exponent = j; is = refl }
+    of_test false rest = subst (λ power. IsPower (doubled_to n size power)) (let next : 2 ^ suc j ≡ 2 * 2 ^ j = rw pow-suc (omega arith) in next) rest
+
+pub rounded_power : (size : ℕ) → IsPower (rounded size)
+rounded_power size = doubled_power size size 0
+
+pub power_is_some : (n : ℕ) → IsPower n → 0 < n
+power_is_some n power = omega (arith, power.is, pow-le-pow_right {n = 2} (omega arith) {i = 0} {j = power.exponent} (omega arith))
+
+pub logarithm_is : (n k : ℕ) → IsPower n → 2 ^ k ≤ n → n < 2 * 2 ^ k → 2 ^ k ≡ n
+logarithm_is n k power below above = elim (cases_lt k power.exponent) [
+  | inl lt ↦ absurd (let double : 2 ^ suc k ≡ 2 ^ k * 2 = pow-suc 2 k in omega (arith, power.is, above, double, pow-le-pow_right {n = 2} (omega arith) {i = suc k} {j = power.exponent} (omega arith)))
+  | inr le ↦ omega (arith, power.is, below, pow-le-pow_right {n = 2} (omega arith) {i = power.exponent} {j = k} le)
+]
+
+pub power_bound : (k : ℕ) → k < 64 → 2 ^ k ≤ 2 ^ 63
+power_bound k lt = pow-le-pow_right {n = 2} (omega arith) {i = k} {j = 63} (omega arith)

@@ -1,17 +1,18 @@
 //! A shard of a cache's pages by their recent use.
 //!
-//! Its places stand in a list, and for each place an entry names its slot there and its size. So an access takes constant
-//! time, but for the places that leave.
+//! Its places stand in a list with their sizes, and for each place an entry names its slot there. So an access takes
+//! constant time, but for the places that leave.
 
-ghost use Rattle.std.specs.Prelude.{◌≡◌, ◌≢◌, ◌<◌, ◌≤◌, ◌+◌, ◌^◌, ℕ, [], ◌∷◌, length, All, IfOk, OnOk, OnErr, IsOk, IsSome, Contains, vec_len};
-ghost use Rattle.std.specs.Option.{ForSome};
+ghost use Rattle.std.specs.Prelude.{◌≡◌, ◌≢◌, ◌<◌, ◌≤◌, ◌+◌, ◌^◌, ℕ, [], ◌∷◌, length, All, IfOk, OnOk, OnErr, IsOk, IfSome, IsSome, Contains, Some, vec_len};
 ghost use Rattle.sled_base.specs.Dll.{slots};
+ghost use Rattle.sled_base.specs.Limits.{exponent_count};
 ghost use Rattle.sled_base.specs.Lru.{listing, total, others, IsUsed, IsWithin};
-ghost use Rattle.sled_base.specs.Shards.{entry_at, entry_size, PutsFirst, IsCut, TakesLast};
+ghost use Rattle.sled_base.specs.Shards.{place_in, size_in, entry_at, PutsFirst, IsCut, TakesLast};
+ghost use Rattle.sled_base.specs.declared.dll.Slot.{Slot};
 
-use super::entry::{Entry, OptionalEntry};
+use super::item;
 use crate::PageId;
-use crate::dll::{DoublyLinkedList, Slot};
+use crate::dll::{DoublyLinkedList, OptionalSlot, Slot};
 use crate::growth::reserve;
 use std::alloc::{AllocError, Global};
 use std::marker::Model;
@@ -19,10 +20,10 @@ use std::marker::Model;
 /// Places with their sizes, from the most recently used on.
 #[derive(Drop)]
 pub struct Shard {
-    // the places
+    // the places with their sizes
     list: DoublyLinkedList,
-    // by place, and none where it isn't listed
-    entries: Vec<OptionalEntry>,
+    // by place: its slot in the list, and none where it isn't listed
+    entries: Vec<OptionalSlot>,
     capacity: u64,
     // the sizes of all that are listed together
     total: u128,
@@ -35,7 +36,7 @@ impl Model for Shard {
 
     ghost use Rattle.sled_base.specs.Shards.{listings_of, IsIndexed};
 
-    ghost view = { λ s. record { capacity = s.capacity; listings = listings_of s.entries.items s.list } };
+    ghost view = { λ s. record { capacity = s.capacity; listings = listings_of s.list } };
 
     ghost invariant = { λ s. IsIndexed s.entries.items s.list s.total };
 }
@@ -53,25 +54,34 @@ impl Shard {
         }
     }
 
-    /// Puts the place first with that size, and the places that leave for it, from the last on, into `gone` in place of what it held.
+    /// Puts the place first with the size 2^exponent, and the places that leave for it, from the last on, into `gone` in
+    /// place of what it held.
     ///
     /// It allocates before it changes anything, so an error leaves both unchanged. It allocates nothing where the place is
     /// listed with that size.
-    pub fn accessed(&mut self, place: u64, size: u64, gone: &mut Vec<u64>) -> Result<(), AllocError>
+    pub fn accessed(
+        &mut self,
+        place: u64,
+        exponent: u32,
+        gone: &mut Vec<u64>,
+    ) -> Result<(), AllocError>
         requires near { place < 2 ^ 56 }
-        requires room { total self.old.listings + size < 2 ^ 128 }
-        ensures used { OnOk result (IsUsed self.old.capacity place size
+        requires power { exponent < exponent_count }
+        requires room { total self.old.listings + 2 ^ exponent < 2 ^ 128 }
+        ensures used { OnOk result (IsUsed self.old.capacity place (2 ^ exponent)
             self.old.listings self.new.listings gone.new.items) }
         ensures capacity { self.new.capacity ≡ self.old.capacity }
         ensures near { OnOk result (All (λ place. place < 2 ^ 56) gone.new.items) }
         ensures err { OnErr result (self.new ≡ self.old) }
         ensures kept { OnErr result (gone.new.items ≡ gone.old.items) }
-        ensures always { Contains self.old.listings (listing place size)
+        ensures always { Contains self.old.listings (listing place (2 ^ exponent))
             → IsWithin self.old.capacity self.old.listings → IsOk result }
     {
-        let count = self.leaving(place, size);
+        let item = item::packed(place, exponent);
+        let sum = self.sum_with(item);
+        let count = self.leaving(item, sum);
         gone.reserve_exact(count)?;
-        self.put_first(place, size)?;
+        self.put_first(item, sum)?;
         gone.clear();
         for _ in 0..count {
             gone.push_reserved(self.drop_last());
@@ -79,12 +89,32 @@ impl Shard {
         Ok(())
     }
 
-    // How many places leave for one of that size: those of the walk from the last on, which passes over the place itself.
-    fn leaving(&self, place: u64, size: u64) -> usize
-        requires { total self.now.listings + size < 2 ^ 128 }
-        ensures { IsCut self.now.capacity place size self.now.listings result }
+    // What the item and the other places take together.
+    fn sum_with(&self, item: u64) -> u128
+        requires { total self.now.listings + size_in item < 2 ^ 128 }
+        ensures { result ≡ size_in item + total (others (place_in item) self.now.listings) }
     {
-        let mut total = self.total - u128::from(size_at(&self.entries, place)) + u128::from(size);
+        self.total - u128::from(self.size_at(item::place(item))) + u128::from(item::size(item))
+    }
+
+    // The size of the place, or 0 where it isn't listed.
+    fn size_at(&self, place: u64) -> u64
+        ensures { total (others place self.now.listings) + result ≡ total self.now.listings }
+    {
+        match slot_at(&self.entries, place) {
+            Some(slot) => item::size(self.list.item(slot)),
+            None => 0,
+        }
+    }
+
+    // How many places leave for the item, which takes so much with the others: those of the walk from the last on, which
+    // passes over the item's own place.
+    fn leaving(&self, item: u64, sum: u128) -> usize
+        requires { sum ≡ size_in item + total (others (place_in item) self.now.listings) }
+        ensures { IsCut self.now.capacity (place_in item) (size_in item) self.now.listings result }
+    {
+        let place = item::place(item);
+        let mut total = sum;
         let mut count = 0;
         let mut last = self.list.last();
         for _ in 0..self.list.len() {
@@ -95,8 +125,8 @@ impl Shard {
                 return count;
             };
             let other = self.list.item(slot);
-            if other != place {
-                total -= u128::from(size_at(&self.entries, other));
+            if item::place(other) != place {
+                total -= u128::from(item::size(other));
                 count += 1;
             }
             last = self.list.before(slot);
@@ -104,22 +134,21 @@ impl Shard {
         count
     }
 
-    // Puts the place first with that size. An error leaves the shard unchanged.
-    fn put_first(&mut self, place: u64, size: u64) -> Result<(), AllocError>
-        requires near { place < 2 ^ 56 }
-        requires room { total self.old.listings + size < 2 ^ 128 }
+    // Puts the item first, which takes so much with the others. An error leaves the shard unchanged.
+    fn put_first(&mut self, item: u64, sum: u128) -> Result<(), AllocError>
+        requires near { place_in item < 2 ^ 56 }
+        requires sum { sum ≡ size_in item + total (others (place_in item) self.old.listings) }
         ensures ok { OnOk result (self.new ≡ record {
           capacity = self.old.capacity;
-          listings = listing place size ∷ others place self.old.listings;
+          listings = listing (place_in item) (size_in item) ∷ others (place_in item) self.old.listings;
         }) }
         ensures err { OnErr result (self.new ≡ self.old) }
-        ensures always { (x : ℕ) → Contains self.old.listings (listing place x) → IsOk result }
+        ensures always { (x : ℕ) → Contains self.old.listings (listing (place_in item) x) → IsOk result }
     {
-        let index = place as usize;
+        let index = item::place(item) as usize;
         make_room(&mut self.entries, index)?;
-        let slot = put_in_front(&mut self.list, self.entries[index].get(), place)?;
-        self.total = self.total - u128::from(size_at(&self.entries, place)) + u128::from(size);
-        self.entries[index] = OptionalEntry::some(self.list.packed(slot), size);
+        self.entries[index] = put_in_front(&mut self.list, self.entries[index], item)?;
+        self.total = sum;
         Ok(())
     }
 
@@ -128,42 +157,46 @@ impl Shard {
         requires { self.old.listings ≢ [] }
         ensures { TakesLast result self.old self.new }
     {
-        let place = self.list.pop_tail().unwrap();
-        self.total -= u128::from(size_at(&self.entries, place));
-        self.entries[place as usize] = OptionalEntry::none();
+        let item = self.list.pop_tail().unwrap();
+        let place = item::place(item);
+        self.total -= u128::from(item::size(item));
+        self.entries[place as usize] = OptionalSlot::none();
         place
     }
 }
 
-// Puts the place first in the list, where it may have an entry, and answers its slot.
+// Puts the item first in the list, where its place may have an entry, and answers the entry that it has then.
 fn put_in_front(
     list: &mut DoublyLinkedList,
-    entry: Option<Entry>,
-    place: u64,
-) -> Result<Slot, AllocError>
-    requires { ForSome entry (λ e. Contains (slots list.old) e.slot) }
-    ensures ok { IfOk result (λ slot. PutsFirst slot place entry list.old list.new) }
+    entry: OptionalSlot,
+    item: u64,
+) -> Result<OptionalSlot, AllocError>
+    requires { IfSome entry (Contains (slots list.old)) }
+    ensures ok { IfOk result (λ named. (slot : Slot)
+        × (named ≡ Some slot) × PutsFirst slot item entry list.old list.new) }
     ensures err { OnErr result (list.new ≡ list.old) }
     ensures always { IsSome entry → IsOk result }
 {
-    match entry {
-        Some(entry) => Ok(list.promote(entry.slot)),
-        None => list.push_head(place),
-    }
+    let Some(slot) = entry.get() else {
+        let slot = list.push_head(item)?;
+        return Ok(list.packed(slot));
+    };
+    list.renew(slot, item);
+    Ok(entry)
 }
 
-// The size of the place, or 0 where it isn't listed.
-fn size_at(entries: &[OptionalEntry], place: u64) -> u64
-    ensures { result ≡ entry_size (entry_at entries.now place) }
+// The slot of the place, or None where it isn't listed.
+fn slot_at(entries: &[OptionalSlot], place: u64) -> Option<Slot>
+    ensures { result ≡ entry_at entries.now place }
 {
     match entries.get(place as usize) {
-        Some(entry) => entry.size(),
-        None => 0,
+        Some(entry) => entry.get(),
+        None => None,
     }
 }
 
 // Makes so many entries that there is one for the index.
-fn make_room(entries: &mut Vec<OptionalEntry>, index: usize) -> Result<(), AllocError>
+fn make_room(entries: &mut Vec<OptionalSlot>, index: usize) -> Result<(), AllocError>
     requires { index < 2 ^ 56 }
     ensures ok { OnOk result (index < vec_len entries.new) }
     ensures same { (place : ℕ)
@@ -175,5 +208,5 @@ fn make_room(entries: &mut Vec<OptionalEntry>, index: usize) -> Result<(), Alloc
         return Ok(());
     }
     reserve(entries, index + 1 - entries.len())?;
-    entries.resize(index + 1, OptionalEntry::none())
+    entries.resize(index + 1, OptionalSlot::none())
 }

@@ -1,73 +1,66 @@
-use Rattle.std.proofs.Common.{◌≡◌, ◌-◌, ◌+◌, ◌<◌, Some, ◌∷◌, length, refl, sym, ap, subst, ◌∙◌, arith}
-use Rattle.std.specs.Prelude.{slice_set, Contains}
+use Rattle.std.proofs.Common.{◌≡◌, ℕ, ◌+◌, ◌<◌, Some, ◌∷◌, length, refl, sym, ap, subst, ◌∙◌, arith}
+use Rattle.std.specs.Prelude.{slice_set, slice_index_or, Contains}
 use Rattle.std.proofs.lemmas.Bool.{false≢true}
-use Rattle.sled_base.specs.Lru.{listing, others}
-use Rattle.sled_base.specs.Shards.{Shelf, entry_at, entry_size, listings_of, IsIndexed, PutsFirst}
-use Rattle.sled_base.specs.Entries.{entry_of}
-use Rattle.sled_base.proofs.RecentUse.Keeping.{puts_live, same-kept, same-listings, listed_entry, within_entries, entry_read, slot_there, total-others, size_read, puts_before, kept-put, IsPut}
+use Rattle.sled_base.specs.Lru.{listing, total, others}
+use Rattle.sled_base.specs.Shards.{Shelf, place_in, size_in, entry_at, listings_of, IsIndexed, PutsFirst}
+use Rattle.sled_base.proofs.RecentUse.Keeping.{HasEntry, IsPut, same-kept, listed_entry, within_entries, entry_read, found_there, puts_before, kept-put}
 use Rattle.sled_base.proofs.lru.shard.Shard.put_first.Goals as goal
+use Rattle.sled_base.proofs.lru.shard.Shard.put_first.Goals.{After-make_room, After-index, In_ok-self-inside}
 
-pub invariant_of-self : goal.invariant_of-self
-invariant_of-self c =
+-- a place that is listed has an entry
+has_entry : (c : After-make_room) (x : ℕ) → Contains c.args.self.now.listings (listing (place_in c.args.item) x) → HasEntry c.self.inside.entries.items (place_in c.args.item)
+has_entry c x there =
+    listed_entry c.self.inside.entries.items c.self.inside.list c.self.inside.total (place_in c.args.item) x c.self.invariant (subst (λ (shelf : Shelf). Contains shelf.listings (listing (place_in c.args.item) x)) (sym c.self.view_is) there)
+
+-- what was listed is listed still when there is room
+still_kept : (c : After-make_room) → IsIndexed c.make_room.new.entries.items c.self.inside.list c.self.inside.total
+still_kept c =
     same-kept c.self.inside.entries.items c.make_room.new.entries.items c.make_room.ensures.same c.self.inside.list c.self.inside.total (c.make_room.ensures.few c.self.invariant.few) c.self.invariant
+
+within : (c : After-index) → place_in c.args.item < length c.make_room.new.entries.items
+within c = omega (arith, c.in_ok-make_room.ensures.ok, c.place-index.ensures, c.make_room.new.entries.ok.0)
+
+-- the entry that was read
+read : (c : After-index) → entry_at c.make_room.new.entries.items (place_in c.args.item) ≡ c.index.result.now
+read c =
+    entry_read c.make_room.new.entries.items (place_in c.args.item) c.index.result.now (within c) (subst (λ place. c.index.result.now ≡ slice_index_or c.make_room.new.entries.items place c.index.result.now) c.place-index.ensures c.index.ensures)
 
 pub returns-in_err-make_room-clause-always : goal.returns-in_err-make_room-clause-always
 returns-in_err-make_room-clause-always c = λ x there.
-    let has = listed_entry c.self.inside.entries.items c.self.inside.list c.self.inside.total c.args.place x c.self.invariant (subst (λ (shelf : Shelf). Contains shelf.listings (listing c.args.place x)) (sym c.self.view_is) there) in
-    let within = within_entries c.self.inside.entries.items c.args.place has.entry has.is in
-    absurd (false≢true (c.in_err-make_room.ensures.always (omega (arith, within, c.self.inside.entries.ok.0))))
+    let has = has_entry (goal.at.returns-in_err-make_room-clause-always c).After-make_room x there in
+    absurd (false≢true (c.in_err-make_room.ensures.always (omega (arith, within_entries c.self.inside.entries.items (place_in c.args.item) has.slot has.is, c.place-index.ensures, c.self.inside.entries.ok.0))))
 
 pub put_in_front-requires : goal.put_in_front-requires
-put_in_front-requires c = λ entry is.
-    let within : c.args.place < length c.make_room.new.entries.items = omega (arith, c.in_ok-make_room.ensures.ok, c.make_room.new.entries.ok.0) in
-    let read = entry_read c.make_room.new.entries.items c.args.place c.index.result.now within c.index.ensures ∙ sym c.get.ensures in
-    slot_there c.self.inside.entries.items c.self.inside.list c.self.inside.total c.args.place entry c.self.invariant (sym (c.make_room.ensures.same c.args.place) ∙ read ∙ is)
+put_in_front-requires c = found_there c.make_room.new.entries.items c.self.inside.list c.self.inside.total (place_in c.args.item) c.index.result.now (still_kept (goal.at.put_in_front-requires c).After-make_room) (read (goal.at.put_in_front-requires c).After-index)
 
-pub invariant_of-self-in_err-slot : goal.invariant_of-self-in_err-slot
-invariant_of-self-in_err-slot c =
-    subst (λ list. IsIndexed c.make_room.new.entries.items list c.self.inside.total) (sym c.in_err-slot.ensures.err)
-    (same-kept c.self.inside.entries.items c.make_room.new.entries.items c.make_room.ensures.same c.self.inside.list c.self.inside.total (c.make_room.ensures.few c.self.invariant.few) c.self.invariant)
+pub invariant_of-self-in_err-self-inside : goal.invariant_of-self-in_err-self-inside
+invariant_of-self-in_err-self-inside c =
+    subst (λ list. IsIndexed c.make_room.new.entries.items list c.self.inside.total) (sym c.in_err-self-inside.ensures.err) (still_kept (goal.at.invariant_of-self-in_err-self-inside c).After-make_room)
 
-pub returns-in_err-slot-clause-always : goal.returns-in_err-slot-clause-always
-returns-in_err-slot-clause-always c = λ x there.
-    let has = listed_entry c.self.inside.entries.items c.self.inside.list c.self.inside.total c.args.place x c.self.invariant (subst (λ (shelf : Shelf). Contains shelf.listings (listing c.args.place x)) (sym c.self.view_is) there) in
-    let within : c.args.place < length c.make_room.new.entries.items = omega (arith, c.in_ok-make_room.ensures.ok, c.make_room.new.entries.ok.0) in
-    let read = entry_read c.make_room.new.entries.items c.args.place c.index.result.now within c.index.ensures ∙ sym c.get.ensures in
-    let some : c.get.result ≡ Some has.entry = sym read ∙ c.make_room.ensures.same c.args.place ∙ has.is in
-    absurd (false≢true (c.in_err-slot.ensures.always (rw some refl)))
-
-pub overflow_sub-self : goal.overflow_sub-self
-overflow_sub-self c =
-    let size = size_read c.make_room.new.entries.items c.deref.result.now c.args.place c.from.result (c.from.ensures ∙ c.size_at.ensures) c.deref.ensures.value in
-    let same = ap entry_size (c.make_room.ensures.same c.args.place) in
-    omega (arith, size, same, total-others c.self.inside.entries.items c.self.inside.list c.self.inside.total c.args.place c.self.invariant)
-
-pub packed-requires : goal.packed-requires
-packed-requires c = puts_live c.self.inside.list c.put_in_front.new.list c.args.place c.in_ok-slot.slot c.get.result c.in_ok-slot.ensures.ok
-
-pub some-requires : goal.some-requires
-some-requires c = rw c.packed.ensures refl
+pub returns-in_err-self-inside-clause-always : goal.returns-in_err-self-inside-clause-always
+returns-in_err-self-inside-clause-always c = λ x there.
+    let has = has_entry (goal.at.returns-in_err-self-inside-clause-always c).After-make_room x there in
+    let some : c.index.result.now ≡ Some has.slot = sym (read (goal.at.returns-in_err-self-inside-clause-always c).After-index) ∙ c.make_room.ensures.same (place_in c.args.item) ∙ has.is in
+    absurd (false≢true (c.in_err-self-inside.ensures.always (rw some refl)))
 
 -- the list and the entries after it
-is_put : (c : goal.After-self-2-1) → IsPut (slice_set c.make_room.new.entries.items c.args.place c.some.result) c.args.place c.args.size (listings_of c.make_room.new.entries.items c.self.inside.list) c.put_in_front.new.list (c.self.inside.total - entry_size (entry_at c.make_room.new.entries.items c.args.place) + c.args.size)
-is_put c =
-    let kept = same-kept c.self.inside.entries.items c.make_room.new.entries.items c.make_room.ensures.same c.self.inside.list c.self.inside.total (c.make_room.ensures.few c.self.invariant.few) c.self.invariant in
-    let within : c.args.place < length c.make_room.new.entries.items = omega (arith, c.in_ok-make_room.ensures.ok, c.make_room.new.entries.ok.0) in
-    let read = entry_read c.make_room.new.entries.items c.args.place c.index.result.now within c.index.ensures ∙ sym c.get.ensures in
-    let puts : PutsFirst c.in_ok-slot.slot c.args.place (entry_at c.make_room.new.entries.items c.args.place) c.self.inside.list c.put_in_front.new.list = subst (λ found. PutsFirst c.in_ok-slot.slot c.args.place found c.self.inside.list c.put_in_front.new.list) (sym read) c.in_ok-slot.ensures.ok in
-    let entry = c.some.ensures ∙ ap (λ slot. entry_of slot c.args.size) c.packed.ensures in
-    subst (λ entry. IsPut (slice_set c.make_room.new.entries.items c.args.place entry) c.args.place c.args.size (listings_of c.make_room.new.entries.items c.self.inside.list) c.put_in_front.new.list (c.self.inside.total - entry_size (entry_at c.make_room.new.entries.items c.args.place) + c.args.size)) (sym entry)
-    (kept-put c.make_room.new.entries.items c.self.inside.list c.put_in_front.new.list c.self.inside.total c.args.place c.args.size c.in_ok-slot.slot kept within
-    (puts_before c.make_room.new.entries.items c.self.inside.list c.put_in_front.new.list c.self.inside.total c.args.place c.in_ok-slot.slot kept puts))
+is_put : (c : In_ok-self-inside) → IsIndexed c.make_room.new.entries.items c.self.inside.list c.self.inside.total → place_in c.args.item < length c.make_room.new.entries.items → entry_at c.make_room.new.entries.items (place_in c.args.item) ≡ c.index.result.now → IsPut (slice_set c.make_room.new.entries.items c.place-index.result c.in_ok-self-inside.field-0) c.args.item (listings_of c.self.inside.list) c.put_in_front.new.list c.args.sum
+is_put c kept within read =
+    let entries = c.make_room.new.entries.items in
+    let put = c.in_ok-self-inside.ensures.ok in
+    let puts = subst (λ found. PutsFirst put.0 c.args.item found c.self.inside.list c.put_in_front.new.list) (sym read) put.2 in
+    let sum = subst (λ (shelf : Shelf). c.args.sum ≡ size_in c.args.item + total (others (place_in c.args.item) shelf.listings)) (sym c.self.view_is) c.requires.sum in
+    let is = kept-put entries c.self.inside.list c.put_in_front.new.list c.self.inside.total c.args.item c.args.sum put.0 kept within sum (puts_before entries c.self.inside.list c.put_in_front.new.list c.self.inside.total c.args.item put.0 kept puts) in
+    let at_place = subst (λ place. IsPut (slice_set entries place (Some put.0)) c.args.item (listings_of c.self.inside.list) c.put_in_front.new.list c.args.sum) (sym c.place-index.ensures) is in
+    subst (λ entry. IsPut (slice_set entries c.place-index.result entry) c.args.item (listings_of c.self.inside.list) c.put_in_front.new.list c.args.sum) (sym put.1) at_place
 
 pub invariant_of-self-2 : goal.invariant_of-self-2
 invariant_of-self-2 c =
-    let size = size_read c.make_room.new.entries.items c.deref.result.now c.args.place c.from.result (c.from.ensures ∙ c.size_at.ensures) c.deref.ensures.value in
-    let sum : c.self.inside.total - entry_size (entry_at c.make_room.new.entries.items c.args.place) + c.args.size ≡ c.self.inside.total - c.from.result + c.from-2.result = omega (arith, size, c.from-2.ensures) in
-    subst (IsIndexed (slice_set c.make_room.new.entries.items c.args.place c.some.result) c.put_in_front.new.list) sum (is_put c).kept
+    let at = goal.at.invariant_of-self-2 c in
+    (is_put at.In_ok-self-inside (still_kept at.After-make_room) (within at.After-index) (read at.After-index)).kept
 
 pub returns-clause-ok : goal.returns-clause-ok
 returns-clause-ok c =
-    let was : listings_of c.make_room.new.entries.items c.self.inside.list ≡ c.args.self.now.listings = same-listings c.self.inside.entries.items c.make_room.new.entries.items c.make_room.ensures.same c.self.inside.list ∙ ap (λ (shelf : Shelf). shelf.listings) c.self.view_is in
-    ap (λ ls. record { capacity = c.self.inside.capacity; listings = ls }) ((is_put c).is ∙ ap (λ ls. listing c.args.place c.args.size ∷ others c.args.place ls) was)
-    ∙ ap (λ (shelf : Shelf). record { capacity = shelf.capacity; listings = listing c.args.place c.args.size ∷ others c.args.place c.args.self.now.listings }) c.self.view_is
+    let at = goal.at.returns-clause-ok c in
+    ap (λ ls. record { capacity = c.self.inside.capacity; listings = ls }) (is_put at.In_ok-self-inside (still_kept at.After-make_room) (within at.After-index) (read at.After-index)).is
+    ∙ ap (λ (shelf : Shelf). record { capacity = shelf.capacity; listings = listing (place_in c.args.item) (size_in c.args.item) ∷ others (place_in c.args.item) shelf.listings }) c.self.view_is
