@@ -13,6 +13,7 @@ pub mod Containing
 pub mod Dll
 pub mod Links
 pub mod OptionalSlots
+pub mod Cells
 pub mod Lru
 pub mod LruLaws
 pub mod Shards

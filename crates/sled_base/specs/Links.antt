@@ -1,12 +1,13 @@
 -- How the cells of a doubly linked list are linked.
-use Rattle.std.specs.Prelude.{◌≡◌, ◌≢◌, ℕ, zero, suc, ◌+◌, ◌<◌, Option, Some, None, List, [], ◌∷◌, ◌++◌, length, if◌then◌else◌, ◌==◌, nat_lt}
+use Rattle.std.specs.Prelude.{◌≡◌, ◌≢◌, ℕ, zero, suc, ◌+◌, ◌<◌, ◌≤◌, Option, Some, None, List, [], ◌∷◌, ◌++◌, length, if◌then◌else◌, ◌==◌, nat_lt}
 use Rattle.std.specs.List.{slice_get}
 use Rattle.sled_base.specs.Dll.{Listed, listed, slots, last_slot}
+use Rattle.sled_base.specs.OptionalSlots.{cell_limit}
 use Rattle.sled_base.specs.declared.dll.Slot.{Slot}
-use Rattle.sled_base.specs.declared.dll.links.Link.{Link}
+use Rattle.sled_base.specs.declared.dll.cell.Link.{Link}
 use Rattle.sled_base.specs.declared.dll.links.Links.{Links}
-use Rattle.sled_base.specs.declared.dll.links.Cell.{Cell}
-use Rattle.sled_base.specs.declared.dll.links.Cell.TheVariants.{Linked, Free}
+use Rattle.sled_base.specs.declared.dll.cell.Cell.{Cell}
+use Rattle.sled_base.specs.declared.dll.cell.Cell.TheVariants.{Linked, Free}
 
 -- The slot of the first item, or else another.
 abbrev pub first_slot_or : Option Slot → List Listed → Option Slot
@@ -44,6 +45,7 @@ pub record IsLinkedListOf (out : List Slot) (links : Links) (list : List Listed)
   pub free : links.free ≡ first_of spare
   -- each place stands once
   pub once : (place : ℕ) → times place (out ++ (slots list ++ spare)) ≡ (if nat_lt place (length links.cells.items) then 1 else 0)
+  pub few : length links.cells.items ≤ cell_limit
   pub total : length out + (length list + length spare) ≡ length links.cells.items
 
 -- What a cell links, if it is linked.

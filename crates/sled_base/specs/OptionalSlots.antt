@@ -1,12 +1,20 @@
 -- A slot or none as one number.
-use Rattle.std.specs.Prelude.{◌≡◌, ℕ, Option, Some, None, if◌then◌else◌, ◌==◌, refl}
+use Rattle.std.specs.Prelude.{◌≡◌, ℕ, Bool, false, Option, Some, None, if◌then◌else◌, ◌==◌, refl}
 use Rattle.std.proofs.Common.{inl, inr, sym}
 use Rattle.std.proofs.lemmas.Bool.{cases_eq, eq-eqb, ne_eqb}
 use Rattle.sled_base.specs.declared.dll.Slot.{Slot}
 
 -- the number of no slot
 abbrev pub no_slot : ℕ
-no_slot = 18446744073709551615
+no_slot = 4294967295
+
+-- There are at most so many cells, so no slot has the number itself: as the neighbour in a cell it says that the cell is free.
+abbrev pub cell_limit : ℕ
+cell_limit = 4294967294
+
+abbrev pub is_mark : Option Slot → Bool
+is_mark None = false
+is_mark (Some slot) = slot.0 == cell_limit
 
 abbrev pub slot_of : ℕ → Option Slot
 slot_of n = if n == no_slot then None else Some (record { 0 = n })

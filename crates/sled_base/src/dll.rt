@@ -7,6 +7,7 @@ ghost use Rattle.std.specs.Prelude.{◌≡◌, ◌↔◌, [], ◌∷◌, ◌++�
 ghost use Rattle.sled_base.specs.Dll.{Listed, listed, slots, items, last_slot, AreDistinct, IsPromoted, IsRenewed};
 ghost use Rattle.sled_base.specs.declared.dll.Slot.{Slot};
 
+mod cell;
 mod links;
 mod optional_slot;
 
@@ -18,9 +19,9 @@ use std::marker::Model;
 
 /// The place of an item in a list, for as long as it is listed.
 #[derive(Clone, Copy, Debug, PartialEq, Eq)]
-pub struct Slot(usize);
+pub struct Slot(u32);
 
-/// A list of page ids, which grows and shrinks at both ends.
+/// A list of page ids, which grows and shrinks at both ends. It has at most 2^32 - 2 items: for one more, memory counts as out.
 ///
 /// Contracts see its items from the head to the tail, each with its slot.
 #[derive(Drop)]

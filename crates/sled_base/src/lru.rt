@@ -1,7 +1,7 @@
 //! Pages by their recent use, and which of them leave where they exceed a capacity together.
 //!
 //! The pages are spread over 256 shards by their ids. Each shard has an equal part of the capacity, and lists its pages from
-//! the most recently used on.
+//! the most recently used on. It lists at most 2^32 - 2 pages: for one more, memory counts as out.
 
 ghost use Rattle.std.specs.Prelude.{◌≡◌, ◌<◌, ◌≤◌, ◌+◌, ◌*◌, ◌^◌, map, All, IfOk, IfErr, IsOk, OnOk, OnErr, Ok, Err};
 ghost use Rattle.sled_base.specs.Limits.{shard_count, exponent_count};

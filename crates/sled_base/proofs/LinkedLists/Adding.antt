@@ -1,5 +1,5 @@
 -- Cells are taken, linked and set free.
-use Rattle.std.proofs.Common.{inl, inr, ◌≡◌, ℕ, ◌+◌, cond, eqb, ltb, Option, Some, None, List, [], ◌∷◌, ◌++◌, length, set, refl, sym, ap, ◌∙◌, subst, arith}
+use Rattle.std.proofs.Common.{inl, inr, ◌≡◌, ℕ, ◌+◌, ◌<◌, cond, eqb, ltb, Option, Some, None, List, [], ◌∷◌, ◌++◌, length, set, refl, sym, ap, ◌∙◌, subst, arith}
 use Rattle.std.specs.List.{slice_get}
 use Rattle.std.specs.Option.{option_or}
 use Rattle.std.proofs.lemmas.Bool.{cases_lt, cases_eq, le-ltb, lt-ltb, eq-eqb, ne_eqb}
@@ -7,10 +7,11 @@ use Rattle.std.proofs.lemmas.List.{length-append, length-set}
 use Rattle.std.proofs.lemmas.Option.{same_Some}
 use Rattle.sled_base.specs.Dll.{Listed, listed, slots, last_slot_or, last_slot}
 use Rattle.sled_base.specs.Links.{first_slot_or, first_of, AreLinked, AreFree, times, IsLinkedListOf, IsLinkedList, listed_in, ChangesLink, with_before, with_after}
+use Rattle.sled_base.specs.OptionalSlots.{cell_limit}
 use Rattle.sled_base.specs.declared.dll.Slot.{Slot}
 use Rattle.sled_base.specs.declared.dll.links.Links.{Links}
-use Rattle.sled_base.specs.declared.dll.links.Cell.{Cell}
-use Rattle.sled_base.specs.declared.dll.links.Cell.TheVariants.{Linked, Free}
+use Rattle.sled_base.specs.declared.dll.cell.Cell.{Cell}
+use Rattle.sled_base.specs.declared.dll.cell.Cell.TheVariants.{Linked, Free}
 use Rattle.sled_base.proofs.LinkedLists.Standing.{times-append, times-slots_append, one_there}
 use Rattle.sled_base.proofs.LinkedLists.Linking.{get_set_there, get_pushed, linked_kept, free_kept, keeps_from_set, keeps_from_change, last-append, linked_join, first_stands, end_stands, linked_to, linked_from}
 use Rattle.sled_base.proofs.LinkedLists.Keeping.{Lists, lists, times_in_all, stands_once, stands_within, once_again}
@@ -55,6 +56,7 @@ linked_at_head old new list spare slot item kept changes head tail len free =
       unused = free_kept middle new.cells.items spare (keeps_from_change spare middle new.cells.items (first_slot_or None list) (with_before (Some slot)) (λ s is. omega (arith, first_stands list s is, once s.0)) changes) (free_once_set old list spare slot kept cell);
       free = free ∙ kept.free;
       once = once_again (slot ∷ []) [] list (listed slot item ∷ list) spare spare (length old.cells.items) (length new.cells.items) size (λ place. omega arith) (times_in_all (slot ∷ []) old list spare kept);
+      few = omega (arith, size, kept.few);
       total = omega (arith, size, kept.total);
     }
   where
@@ -80,6 +82,7 @@ linked_at_tail old new list spare slot item kept changes tail head len free =
       unused = free_kept middle new.cells.items spare (keeps_from_change spare middle new.cells.items (last_slot list) (with_after (Some slot)) (λ s is. omega (arith, end_stands list s is, once s.0)) changes) (free_once_set old list spare slot kept cell);
       free = free ∙ kept.free;
       once = once_again (slot ∷ []) [] list (list ++ last) spare spare (length old.cells.items) (length new.cells.items) size (λ place. omega (arith, times-slots_append place list last)) (times_in_all (slot ∷ []) old list spare kept);
+      few = omega (arith, size, kept.few);
       total = omega (arith, size, kept.total, length-append list last);
     }
   where
@@ -100,6 +103,7 @@ released old new list spare slot kept cells free head tail len =
       unused = (ap (λ cs. slice_get cs slot.0) cells ∙ there_once_set old list spare slot kept cell ∙ ap (λ f. Some (Free f)) kept.free, subst (λ (cs : List Cell). AreFree cs spare) (sym cells) (free_once_set old list spare slot kept cell));
       free = free;
       once = once_again (slot ∷ []) [] list list spare (slot ∷ spare) (length old.cells.items) (length new.cells.items) size (λ place. omega arith) (times_in_all (slot ∷ []) old list spare kept);
+      few = omega (arith, size, kept.few);
       total = omega (arith, size, kept.total);
     }
 
@@ -119,6 +123,7 @@ taken old new list (s ∷ spare) slot next kept first cell cells free head tail 
       unused = subst (λ (cs : List Cell). AreFree cs spare) (sym cells) kept.unused.1;
       free = free ∙ next_is;
       once = once_again [] (s ∷ []) list list (s ∷ spare) spare (length old.cells.items) (length new.cells.items) size (λ place. omega arith) (times_in_all [] old list (s ∷ spare) kept);
+      few = omega (arith, size, kept.few);
       total = omega (arith, size, kept.total);
     } in
     lists (slot ∷ []) new list spare (subst (λ (t : Slot). IsLinkedListOf (t ∷ []) new list spare) same result)
@@ -134,8 +139,8 @@ one_more place size =
       ]
     ]
 
-pushed : (old new : Links) (list : List Listed) (spare : List Slot) (slot : Slot) (cell : Cell) → IsLinkedListOf [] old list spare → slot.0 ≡ length old.cells.items → new.cells.items ≡ old.cells.items ++ cell ∷ [] → new.free ≡ old.free → new.head ≡ old.head → new.tail ≡ old.tail → new.len ≡ old.len → IsLinkedListOf (slot ∷ []) new list spare
-pushed old new list spare slot cell kept place_is cells free head tail len =
+pushed : (old new : Links) (list : List Listed) (spare : List Slot) (slot : Slot) (cell : Cell) → IsLinkedListOf [] old list spare → length old.cells.items < cell_limit → slot.0 ≡ length old.cells.items → new.cells.items ≡ old.cells.items ++ cell ∷ [] → new.free ≡ old.free → new.head ≡ old.head → new.tail ≡ old.tail → new.len ≡ old.len → IsLinkedListOf (slot ∷ []) new list spare
+pushed old new list spare slot cell kept room place_is cells free head tail len =
     let all = times_in_all [] old list spare kept in
     let within = stands_within [] old list spare kept in
     let size : length new.cells.items ≡ length old.cells.items + 1 = ap length cells ∙ length-append old.cells.items (cell ∷ []) in
@@ -147,9 +152,10 @@ pushed old new list spare slot cell kept place_is cells free head tail len =
       unused = subst (λ (cs : List Cell). AreFree cs spare) (sym cells) (free_kept old.cells.items (old.cells.items ++ cell ∷ []) spare (λ place some. get_pushed old.cells.items cell place (within place (omega arith))) kept.unused);
       free = free ∙ kept.free;
       once = λ place. omega (arith, times-append place (slots list) spare, all place, one_more place (length old.cells.items), ap (λ n. cond {A = ℕ} (eqb n place) 1 0) place_is, ap (λ n. cond {A = ℕ} (ltb place n) 1 0) size);
+      few = omega (arith, size, room);
       total = omega (arith, size, kept.total);
     }
 
-pub added : (old new : Links) (slot : Slot) (cell : Cell) → IsLinkedList [] old → slot.0 ≡ length old.cells.items → new.cells.items ≡ old.cells.items ++ cell ∷ [] → new.free ≡ old.free → new.head ≡ old.head → new.tail ≡ old.tail → new.len ≡ old.len → Lists (slot ∷ []) new (listed_in old)
-added old new slot cell kept place cells free head tail len =
-    lists (slot ∷ []) new (listed_in old) kept.0 (pushed old new (listed_in old) kept.0 slot cell kept.1 place cells free head tail len)
+pub added : (old new : Links) (slot : Slot) (cell : Cell) → IsLinkedList [] old → length old.cells.items < cell_limit → slot.0 ≡ length old.cells.items → new.cells.items ≡ old.cells.items ++ cell ∷ [] → new.free ≡ old.free → new.head ≡ old.head → new.tail ≡ old.tail → new.len ≡ old.len → Lists (slot ∷ []) new (listed_in old)
+added old new slot cell kept room place cells free head tail len =
+    lists (slot ∷ []) new (listed_in old) kept.0 (pushed old new (listed_in old) kept.0 slot cell kept.1 room place cells free head tail len)

@@ -6,11 +6,12 @@ use Rattle.std.proofs.lemmas.Bool.{cases_lt, cases_eq, le-ltb, lt-ltb, ne_eqb}
 use Rattle.std.proofs.lemmas.Option.{same_Some, slice_get_within}
 use Rattle.sled_base.specs.Dll.{Listed, listed, slots, last_slot, AreDistinct}
 use Rattle.sled_base.specs.Links.{first_slot_or, first_of, AreFree, times, IsLinkedListOf, IsLinkedList, listed_in, IsSlotIn}
+use Rattle.sled_base.specs.OptionalSlots.{cell_limit, is_mark}
 use Rattle.sled_base.specs.declared.dll.Slot.{Slot}
-use Rattle.sled_base.specs.declared.dll.links.Link.{Link}
+use Rattle.sled_base.specs.declared.dll.cell.Link.{Link}
 use Rattle.sled_base.specs.declared.dll.links.Links.{Links}
-use Rattle.sled_base.specs.declared.dll.links.Cell.{Cell}
-use Rattle.sled_base.specs.declared.dll.links.Cell.TheVariants.{Linked, Free}
+use Rattle.sled_base.specs.declared.dll.cell.Cell.{Cell}
+use Rattle.sled_base.specs.declared.dll.cell.Cell.TheVariants.{Linked, Free}
 use Rattle.sled_base.proofs.LinkedLists.Standing.{times-append, times_of_split, one_there, stands_from_times, times_from_contains, contains_from_times, distinct_from_times}
 use Rattle.sled_base.proofs.LinkedLists.Linking.{listed_from-linked, linked_split, first_stands, end_stands}
 
@@ -137,3 +138,8 @@ neighbours_within links cells slot link kept live here size =
       before = within_from link.before cells (λ s named. omega (arith, size, within s.0 (omega (arith, times_of_split s.0 stands.front stands.back x, end_stands stands.front s (sym (ap (λ (l : Link). l.before) is) ∙ named)))));
       after = within_from link.after cells (λ s named. omega (arith, size, within s.0 (omega (arith, times_of_split s.0 stands.front stands.back x, first_stands stands.back s (sym (ap (λ (l : Link). l.after) is) ∙ named)))));
     }
+
+-- the number of a cell isn't the mark
+pub unmarked : (slot : Option Slot) (cells : List Cell) → IsSlotIn slot cells → length cells ≤ cell_limit → is_mark slot ≡ false
+unmarked None cells within few = refl
+unmarked (Some s) cells within few = ne_eqb s.0 cell_limit (λ same. omega (arith, within, few))

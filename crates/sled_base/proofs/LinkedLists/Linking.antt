@@ -5,8 +5,8 @@ use Rattle.std.proofs.lemmas.Option.{same_Some}
 use Rattle.sled_base.specs.Dll.{Listed, slots, last_slot_or, last_slot}
 use Rattle.sled_base.specs.Links.{first_slot_or, AreLinked, AreFree, times, ChangesLink, with_before, with_after, listed_from}
 use Rattle.sled_base.specs.declared.dll.Slot.{Slot}
-use Rattle.sled_base.specs.declared.dll.links.Link.{Link}
-use Rattle.sled_base.specs.declared.dll.links.Cell.{Cell}
+use Rattle.sled_base.specs.declared.dll.cell.Link.{Link}
+use Rattle.sled_base.specs.declared.dll.cell.Cell.{Cell}
 use Rattle.sled_base.proofs.LinkedLists.Standing.{one_there}
 
 -- a cell that was set, and the others

@@ -6,10 +6,10 @@ use Rattle.std.proofs.lemmas.List.{length-append}
 use Rattle.sled_base.specs.Dll.{Listed, listed, slots, last_slot_or, last_slot}
 use Rattle.sled_base.specs.Links.{first_slot_or, AreLinked, AreFree, times, IsLinkedListOf, IsLinkedList, listed_in, ChangesLink, with_before, with_after, TakesOut}
 use Rattle.sled_base.specs.declared.dll.Slot.{Slot}
-use Rattle.sled_base.specs.declared.dll.links.Link.{Link}
+use Rattle.sled_base.specs.declared.dll.cell.Link.{Link}
 use Rattle.sled_base.specs.declared.dll.links.Links.{Links}
-use Rattle.sled_base.specs.declared.dll.links.Cell.{Cell}
-use Rattle.sled_base.specs.declared.dll.links.Cell.TheVariants.{Linked}
+use Rattle.sled_base.specs.declared.dll.cell.Cell.{Cell}
+use Rattle.sled_base.specs.declared.dll.cell.Cell.TheVariants.{Linked}
 use Rattle.sled_base.proofs.LinkedLists.Standing.{times-slots_append, times_of_split, stands_from_times, times_from_contains}
 use Rattle.sled_base.proofs.LinkedLists.Linking.{linked_kept, free_kept, keeps_from_change, keeps_both, last-append, linked_split, linked_join, first_stands, end_stands, linked_to, linked_from}
 use Rattle.sled_base.proofs.LinkedLists.Keeping.{Lists, lists, times_in_all, stands_once, once_again, link_is}
@@ -56,6 +56,7 @@ unlinked old new middle front back x spare kept first second head tail len free 
       unused = out_free old new middle front back x spare kept first second;
       free = free ∙ kept.free;
       once = once_again [] (x.slot ∷ []) (front ++ x ∷ back) (front ++ back) spare spare (length old.cells.items) (length new.cells.items) size (λ place. omega (arith, times_of_split place front back x, times-slots_append place front back)) (times_in_all [] old (front ++ x ∷ back) spare kept);
+      few = omega (arith, size, kept.few);
       total = omega (arith, size, kept.total, length-append front (x ∷ back), length-append front back);
     }
 

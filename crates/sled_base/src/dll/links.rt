@@ -3,12 +3,16 @@
 //! They stand in one vector, and a slot is a place in it. Each cell holds an item of the list and names its neighbours, or
 //! it is free and names the next free cell.
 
-ghost use Rattle.std.specs.Prelude.{◌≡◌, ◌<◌, [], ◌∷◌, ◌++◌, length, IfOk, OnErr, IfSome, IfNone, Contains, IsTrue, ◌↔◌, Option, Some};
+ghost use Rattle.std.specs.Prelude.{◌≡◌, ◌<◌, [], ◌∷◌, ◌++◌, length, IfOk, OnErr, IfSome, IfNone, Contains, IsTrue, ◌↔◌, Option, Some, false};
 ghost use Rattle.std.specs.List.{slice_get};
 ghost use Rattle.sled_base.specs.Dll.{listed, slots, last_slot};
 ghost use Rattle.sled_base.specs.Links.{first_slot_or, listed_in, IsLinkedList, TakesOut, IsLinkAt, ChangesLink, with_before, with_after, IsSlotIn};
+ghost use Rattle.sled_base.specs.OptionalSlots.{is_mark};
 ghost use Rattle.sled_base.specs.declared.dll.Slot.{Slot};
+ghost use Rattle.sled_base.specs.declared.dll.cell.Cell.TheVariants.{Free};
 
+use super::cell::{Cell, Link, PackedCell};
+use super::optional_slot::CELLS;
 use super::{OptionalSlot, Slot};
 use crate::PageId;
 use crate::growth::reserve;
@@ -17,29 +21,12 @@ use std::alloc::{AllocError, Global};
 /// The cells, and where their rows begin and end.
 #[derive(Drop)]
 pub struct Links {
-    cells: Vec<Cell>,
+    cells: Vec<PackedCell>,
     head: OptionalSlot,
     tail: OptionalSlot,
     // the first of the free cells
-    free: Option<Slot>,
+    free: OptionalSlot,
     len: usize,
-}
-
-// A cell with an item of the list, or a free one that names the next free cell.
-#[derive(Clone, Copy)]
-enum Cell {
-    Linked(Link),
-    Free(Option<Slot>),
-}
-
-/// An item with its neighbours.
-#[derive(Clone, Copy)]
-pub struct Link {
-    pub item: PageId,
-    /// The neighbour on the side of the head.
-    pub before: OptionalSlot,
-    /// The neighbour on the side of the tail.
-    pub after: OptionalSlot,
 }
 
 impl Links {
@@ -52,7 +39,7 @@ impl Links {
             cells: Vec::new(alloc),
             head: OptionalSlot::none(),
             tail: OptionalSlot::none(),
-            free: None,
+            free: OptionalSlot::none(),
             len: 0,
         }
     }
@@ -95,7 +82,8 @@ impl Links {
         requires { IsLinkedList [] self.now }
         ensures { IsTrue result ↔ Contains (slots (listed_in self.now)) slot }
     {
-        slot.0 < self.cells.len() && matches!(self.cells[slot.0], Cell::Linked(_))
+        let place = slot.0 as usize;
+        place < self.cells.len() && matches!(self.cells[place].get(), Cell::Linked(_))
     }
 
     /// The slot in the space of one number.
@@ -113,7 +101,7 @@ impl Links {
         requires live { Contains (slots (listed_in self.now)) slot }
         ensures { IsLinkAt self.now slot result }
     {
-        match self.cells[slot.0] {
+        match self.cells[slot.0 as usize].get() {
             Cell::Linked(link) => link,
             Cell::Free(_) => unreachable!(),
         }
@@ -121,25 +109,38 @@ impl Links {
 
     /// A cell for an item: the first that is free, or else a new one.
     ///
-    /// It is neither listed nor free then. An error means out of memory, and leaves the list unchanged.
+    /// It is neither listed nor free then. An error means out of memory, and leaves the list unchanged. It is answered too
+    /// where there are 2^32 - 2 cells, which take 64 GiB. A shard of a cache has at most 2^29 places, so it never comes there.
     pub fn take(&mut self) -> Result<Slot, AllocError>
         requires { IsLinkedList [] self.old }
         ensures ok { IfOk result (λ slot. IsLinkedList (slot ∷ []) self.new) }
         ensures err { OnErr result (IsLinkedList [] self.new) }
         ensures list { listed_in self.new ≡ listed_in self.old }
     {
-        match self.free {
+        match self.free.get() {
             Some(slot) => {
                 self.free = next_free(&self.cells, slot);
                 Ok(slot)
             }
-            None => {
-                reserve(&mut self.cells, 1)?;
-                let slot = Slot(self.cells.len());
-                self.cells.push_reserved(Cell::Free(None));
-                Ok(slot)
-            }
+            None => self.add(),
         }
+    }
+
+    // A new cell, which is neither listed nor free.
+    fn add(&mut self) -> Result<Slot, AllocError>
+        requires { IsLinkedList [] self.old }
+        ensures ok { IfOk result (λ slot. IsLinkedList (slot ∷ []) self.new) }
+        ensures err { OnErr result (IsLinkedList [] self.new) }
+        ensures list { listed_in self.new ≡ listed_in self.old }
+    {
+        if self.cells.len() >= CELLS as usize {
+            return Err(AllocError);
+        }
+        reserve(&mut self.cells, 1)?;
+        let slot = Slot(self.cells.len() as u32);
+        self.cells
+            .push_reserved(PackedCell::free(OptionalSlot::none()));
+        Ok(slot)
     }
 
     /// Puts an item into a cell that was taken, and in front of the others.
@@ -149,7 +150,7 @@ impl Links {
         ensures list { listed_in self.new ≡ listed slot item ∷ listed_in self.old }
     {
         let first = self.head;
-        self.cells[slot.0] = Cell::Linked(Link {
+        self.cells[slot.0 as usize] = PackedCell::linked(Link {
             item,
             before: OptionalSlot::none(),
             after: first,
@@ -168,7 +169,7 @@ impl Links {
         ensures list { listed_in self.new ≡ listed_in self.old ++ listed slot item ∷ [] }
     {
         let last = self.tail;
-        self.cells[slot.0] = Cell::Linked(Link {
+        self.cells[slot.0 as usize] = PackedCell::linked(Link {
             item,
             before: last,
             after: OptionalSlot::none(),
@@ -210,43 +211,44 @@ impl Links {
         ensures list { TakesOut slot result (listed_in self.old) (listed_in self.new) }
     {
         let item = self.unlink(slot);
-        self.cells[slot.0] = Cell::Free(self.free);
-        self.free = Some(slot);
+        self.cells[slot.0 as usize] = PackedCell::free(self.free);
+        self.free = OptionalSlot::some(slot);
         item
     }
 }
 
 // The free cell after that of the slot.
-fn next_free(cells: &Vec<Cell>, slot: Slot) -> Option<Slot>
-    requires { (next : Option Slot) × (slice_get cells.now.items slot.0 ≡ Some (Cell.Free next)) }
-    ensures { slice_get cells.now.items slot.0 ≡ Some (Cell.Free result) }
+fn next_free(cells: &Vec<PackedCell>, slot: Slot) -> OptionalSlot
+    requires { (next : Option Slot) × (slice_get cells.now.items slot.0 ≡ Some (Free next)) }
+    ensures { slice_get cells.now.items slot.0 ≡ Some (Free result) }
 {
-    match cells[slot.0] {
+    match cells[slot.0 as usize].get() {
         Cell::Linked(_) => unreachable!(),
         Cell::Free(next) => next,
     }
 }
 
 // Gives the cell of the slot, if there is one, another neighbour on the side of the head.
-fn set_before(cells: &mut Vec<Cell>, slot: OptionalSlot, before: OptionalSlot)
-    requires { IsSlotIn slot cells.old.items }
+fn set_before(cells: &mut Vec<PackedCell>, slot: OptionalSlot, before: OptionalSlot)
+    requires there { IsSlotIn slot cells.old.items }
+    requires other { is_mark before ≡ false }
     ensures { ChangesLink (with_before before) slot cells.old.items cells.new.items }
 {
     if let Some(slot) = slot.get()
-        && let Cell::Linked(link) = cells[slot.0]
+        && let Cell::Linked(link) = cells[slot.0 as usize].get()
     {
-        cells[slot.0] = Cell::Linked(Link { before, ..link });
+        cells[slot.0 as usize] = PackedCell::linked(Link { before, ..link });
     }
 }
 
 // The same on the side of the tail.
-fn set_after(cells: &mut Vec<Cell>, slot: OptionalSlot, after: OptionalSlot)
+fn set_after(cells: &mut Vec<PackedCell>, slot: OptionalSlot, after: OptionalSlot)
     requires { IsSlotIn slot cells.old.items }
     ensures { ChangesLink (with_after after) slot cells.old.items cells.new.items }
 {
     if let Some(slot) = slot.get()
-        && let Cell::Linked(link) = cells[slot.0]
+        && let Cell::Linked(link) = cells[slot.0 as usize].get()
     {
-        cells[slot.0] = Cell::Linked(Link { after, ..link });
+        cells[slot.0 as usize] = PackedCell::linked(Link { after, ..link });
     }
 }

@@ -1,19 +1,23 @@
 //! A slot or none, in the space of one number.
 
-ghost use Rattle.std.specs.Prelude.{◌≡◌, ◌<◌, ◌^◌, ◌-◌, Some, None};
+ghost use Rattle.std.specs.Prelude.{◌≡◌, ◌<◌, Some, None};
 ghost use Rattle.std.specs.Option.{option_or};
+ghost use Rattle.sled_base.specs.OptionalSlots.{no_slot, cell_limit, is_mark};
 
 use super::Slot;
 use std::marker::Model;
 
 // The number of no slot.
-const NO_SLOT: usize = usize::MAX;
+const NO_SLOT: u32 = u32::MAX;
+
+/// There are at most so many cells, so no slot has the number itself. By it a cell says that it is free.
+pub const CELLS: u32 = u32::MAX - 1;
 
 /// A slot, or none.
 ///
 /// Contracts see it as the `Option` that [`get`](OptionalSlot::get) answers, which takes twice the space.
 #[derive(Clone, Copy)]
-pub struct OptionalSlot(usize);
+pub struct OptionalSlot(u32);
 
 impl Model for OptionalSlot {
     ghost use Rattle.std.specs.Prelude.{Option};
@@ -40,7 +44,7 @@ impl OptionalSlot {
 
     /// The slot.
     pub fn some(slot: Slot) -> OptionalSlot
-        requires { slot.0 < 2 ^ 64 - 1 }
+        requires { slot.0 < no_slot }
         ensures { result ≡ Some slot }
     {
         OptionalSlot(slot.0)
@@ -54,6 +58,20 @@ impl OptionalSlot {
             return None;
         }
         Some(Slot(self.0))
+    }
+
+    /// The mark of a free cell.
+    pub fn mark() -> OptionalSlot
+        ensures { result ≡ Some (record { 0 = cell_limit }) }
+    {
+        OptionalSlot(CELLS)
+    }
+
+    /// Whether it is that mark.
+    pub fn is_mark(self) -> bool
+        ensures { result ≡ is_mark self }
+    {
+        self.0 == CELLS
     }
 
     /// The slot, or the other where there is none.

@@ -1,7 +1,7 @@
 use Rattle.std.proofs.Common.{[], ◌∙◌, ap, subst}
 use Rattle.sled_base.specs.Dll.{listed}
 use Rattle.sled_base.specs.Links.{IsLinkedListOf}
-use Rattle.sled_base.specs.declared.dll.links.Link.{Link}
+use Rattle.sled_base.specs.declared.dll.cell.Link.{Link}
 use Rattle.sled_base.proofs.LinkedLists.Keeping.{link_is}
 use Rattle.sled_base.proofs.dll.DoublyLinkedList.before.Goals as goal
 

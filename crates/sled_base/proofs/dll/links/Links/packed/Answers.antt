@@ -4,4 +4,4 @@ use Rattle.sled_base.proofs.dll.links.Links.packed.Goals as goal
 
 pub some-requires : goal.some-requires
 some-requires c =
-    omega (arith, c.args.self.now.cells.ok.0, c.args.self.now.cells.ok.1, c.args.self.now.cells.small, live_within _ _ _ c.requires.kept c.requires.live)
+    omega (arith, c.requires.kept.1.few, live_within _ _ _ c.requires.kept c.requires.live)

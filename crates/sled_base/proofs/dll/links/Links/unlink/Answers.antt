@@ -1,7 +1,7 @@
-use Rattle.std.proofs.Common.{◌≡◌, ◌-◌, sym, ◌∙◌, refl}
+use Rattle.std.proofs.Common.{◌≡◌, ◌-◌, arith, sym, ◌∙◌, refl}
 use Rattle.std.specs.Prelude.{MatchOption}
 use Rattle.sled_base.specs.declared.dll.links.Links.{Links}
-use Rattle.sled_base.proofs.LinkedLists.Keeping.{neighbours_within}
+use Rattle.sled_base.proofs.LinkedLists.Keeping.{neighbours_within, unmarked}
 use Rattle.sled_base.proofs.LinkedLists.Unlinking.{unlinks}
 use Rattle.sled_base.proofs.dll.links.Links.unlink.Goals as goal
 use Rattle.sled_base.proofs.dll.links.Links.unlink.Goals.{in-Some, in-None, in-Some-get, in-None-get}
@@ -12,7 +12,8 @@ set_after-requires c =
 
 pub set_before-requires : goal.set_before-requires
 set_before-requires c =
-    (neighbours_within c.args.self.now _ c.args.slot c.link-link.result c.requires.kept c.requires.live c.link-link.ensures c.set_after.ensures.length).after
+    let neighbours = neighbours_within c.args.self.now _ c.args.slot c.link-link.result c.requires.kept c.requires.live c.link-link.ensures c.set_after.ensures.length in
+    record { there = neighbours.after; other = unmarked c.link-link.result.before c.set_after.new.cells.items neighbours.before (omega (arith, c.requires.kept.1.few, c.set_after.ensures.length)) }
 
 pub returns : goal.returns
 returns c =
