@@ -3,6 +3,7 @@ pub mod StickyLog
 pub mod StickyLogLaws
 pub mod PageEntry
 pub mod PageTable
+pub mod HeldNodes
 pub mod Invariant
 pub mod CounterPage
 pub mod Eviction

@@ -34,6 +34,7 @@ use super::handles::config::Config;
 use super::memory::accesses::{Accesses, Dropped};
 use super::open::start::open;
 use super::table::free::FreeIds;
+use super::table::held::EmptyLeaf;
 use super::table::pagetable::PageTable;
 use super::write::sticky_log::StickyLog;
 use sled_base::{Device, Error, Lru, Why};
@@ -61,6 +62,8 @@ pub struct PageCache<L: Log> {
     free: FreeIds,
     sticky_log: StickyLog<L>,
     accesses: Accesses,
+    // lent in the place of each empty leaf
+    empty: EmptyLeaf,
 }
 
 impl<L: Log> Model for PageCache<L> {
@@ -137,6 +140,7 @@ impl<L: Log> PageCache<L> {
                     lru,
                     dropped: Dropped::none(alloc),
                 },
+                empty: EmptyLeaf::new(alloc),
             }),
             Err(refusal) => Err((Error::from(refusal), sticky_log.log)),
         }

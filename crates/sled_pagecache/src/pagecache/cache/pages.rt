@@ -249,6 +249,7 @@ impl<L: Log> PageCache<L> {
         let Kept::Node(node) = &page.kept else {
             return None;
         };
-        Some(NodeView::new(node.as_node(), PageView::new(pid, page.stamp)))
+        let node = node.lend(&self.empty);
+        Some(NodeView::new(node, PageView::new(pid, page.stamp)))
     }
 }

@@ -73,10 +73,10 @@ fn apply_link(node: &mut HeldNode, found: &Found<'_>, alloc: Global) -> Result<(
     ensures err { OnErr result (node.new ≡ node.old) }
 {
     let link = link_of(found, alloc)?;
-    if !node.accepts(&link) {
+    if !node.accepts(alloc, &link) {
         return Err(Refusal::Corruption(Some(found.pointer)));
     }
-    node.take(link).map_err(|_| Refusal::OutOfMemory)
+    node.take(alloc, link).map_err(|_| Refusal::OutOfMemory)
 }
 
 // The link that a message is.

@@ -65,9 +65,9 @@ fn page_rss<L: Log>(
 {
     match &page.kept {
         Kept::Free => Ok(0),
-        Kept::Away => Ok(read_node(alloc, sticky_log, pid, page.cache_infos())?.rss()),
+        Kept::Away => Ok(read_node(alloc, sticky_log, pid, page.cache_infos())?.rss(alloc)),
         Kept::Counter(_) => Ok(COUNTER_BYTES),
         Kept::Roots(roots) => Ok(roots.rss()),
-        Kept::Node(node) => Ok(node.rss()),
+        Kept::Node(node) => Ok(node.rss(alloc)),
     }
 }

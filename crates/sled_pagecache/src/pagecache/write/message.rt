@@ -11,12 +11,12 @@ ghost use Rattle.sled_node.specs.Node.{empty_leaf};
 ghost use Rattle.sled_node.specs.Payloads.Links.{CanWriteLink};
 ghost use Rattle.sled_pagecache.specs.Inside.PageWrites.{CanPut, WritesMessage, Wrote, content_of};
 
-use crate::pagecache::table::held::HeldNode;
+use crate::pagecache::table::held::{EMPTY_LEAF, HeldNode};
 use crate::pagecache::table::page::{CacheInfo, Kept};
 use crate::pagecache::write::sticky_log::StickyLog;
 use sled_base::{MessageKind, PageId, Refusal, Serialize};
 use sled_log::Log;
-use sled_node::{Link, Meta, Node};
+use sled_node::{Link, Meta};
 use std::alloc::Global;
 
 // A payload of at most so many bytes is made without an allocation.
@@ -40,7 +40,9 @@ pub(crate) fn write_node<L: Log>(
     ensures { Wrote L.Log sticky_log.old sticky_log.new pid (contents.Put (contents.Node node.now))
         stamp result }
 {
-    let node = node.as_node();
+    let Some(node) = node.apart() else {
+        return write_empty_leaf(sticky_log, pid, stamp);
+    };
     // Every node is well-formed.
     let _ = node.data();
     write(
@@ -56,7 +58,6 @@ pub(crate) fn write_node<L: Log>(
 
 // Writes an empty leaf to the log as the content of a page, and answers how it is kept, at that stamp.
 pub(crate) fn write_empty_leaf<L: Log>(
-    alloc: Global,
     sticky_log: &mut StickyLog<L>,
     pid: PageId,
     stamp: u64,
@@ -67,18 +68,7 @@ pub(crate) fn write_empty_leaf<L: Log>(
     ensures { Wrote L.Log sticky_log.old sticky_log.new pid
         (contents.Put (contents.Node empty_leaf)) stamp result }
 {
-    let leaf = Node::default(alloc);
-    // Every node is well-formed.
-    let _ = leaf.data();
-    write(
-        alloc,
-        sticky_log,
-        MessageKind::InlineNode,
-        pid,
-        &leaf,
-        leaf.serialized_size(),
-        stamp,
-    )
+    write_payload(sticky_log, MessageKind::InlineNode, pid, &EMPTY_LEAF, stamp)
 }
 
 // Writes a link to the log, in so many bytes, and answers how it is kept, at that stamp.

@@ -109,7 +109,7 @@ fn put_free<L: Log>(alloc: Global, copy: &mut StickyLog<L>, pid: PageId) -> Resu
     requires next { L.tells → pid ≡ length (now effect_of_entry (L.state copy.old.log)) }
     ensures { PutsCopy L.Log pid contents.Free copy.old copy.new result }
 {
-    write_empty_leaf(alloc, copy, pid, 0)?;
+    write_empty_leaf(copy, pid, 0)?;
     write_kept(alloc, copy, pid, &Kept::Free, 0, 0)?;
     Ok(())
 }

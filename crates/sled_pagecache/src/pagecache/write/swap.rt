@@ -154,12 +154,7 @@ pub(crate) fn payload_size(kept: &Kept) -> u64
         (contents.Put (content_of kept.now)) }
 {
     match kept {
-        Kept::Node(node) => {
-            let node = node.as_node();
-            // Every node is well-formed.
-            let _ = node.data();
-            node.serialized_size()
-        }
+        Kept::Node(node) => node.written_size(),
         Kept::Roots(roots) => roots.serialized_size(),
         Kept::Counter(n) => n.serialized_size(),
         Kept::Free => 0,
@@ -189,7 +184,7 @@ pub(crate) fn link_page<L: Log>(
     let Kept::Node(node) = &mut page.kept else {
         return Err(Refusal::Corruption(None));
     };
-    if !accepts(node, link) {
+    if !accepts(alloc, node, link) {
         return Err(Refusal::ReportableBug(Bug::LinkRefused));
     }
     if page.stamp == u64::MAX {
@@ -218,7 +213,7 @@ pub(crate) fn link_page<L: Log>(
 }
 
 // Whether the node accepts the link, which can be written then.
-fn accepts(node: &HeldNode, link: &Link) -> bool
+fn accepts(alloc: Global, node: &HeldNode, link: &Link) -> bool
     ensures accepted { IsTrue result ↔ Accepts node.now link.now }
     ensures can_write { result ≡ true → CanWriteLink link.now }
 {
@@ -226,9 +221,9 @@ fn accepts(node: &HeldNode, link: &Link) -> bool
         // It is read here, which shows that it has 64 bits.
         Link::ParentMergeIntention(page) => {
             let _page = *page;
-            node.as_node().accepts(link)
+            node.accepts(alloc, link)
         }
-        _ => node.as_node().accepts(link),
+        _ => node.accepts(alloc, link),
     }
 }
 
@@ -250,7 +245,7 @@ fn prepare(
     if joins {
         infos.reserve(alloc)?;
     }
-    node.apply(link)
+    node.apply(alloc, link)
 }
 
 // In how many bytes a link is written that joins the other messages, or else the node that it made.
@@ -261,7 +256,7 @@ fn linked_size(joins: bool, node: &HeldNode, link: &Link) -> u64
     if joins {
         return link.serialized_size();
     }
-    node.as_node().serialized_size()
+    node.written_size()
 }
 
 // Accesses a page with what its messages will take: such a payload, with theirs where it joins them.

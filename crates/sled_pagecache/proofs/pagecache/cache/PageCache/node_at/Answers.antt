@@ -29,6 +29,6 @@ returns g c =
     let at = c.in_ok-page.ensures in
     rw (← c.self.view_is) (record {
       is = a-node g.L.Log inside.next inside.config inside.recovered inside.accesses.lru inside.sticky_log inside.pages.pages inside.free.ids.keys c.args.pid c.self.invariant.whole.consistent q at
-          c.new-2.result c.in-Node.node c.in-Node.is (c.new-2.ensures.token ∙ c.new.ensures) (c.new-2.ensures.node ∙ c.as_node.ensures);
+          c.new-2.result c.in-Node.node c.in-Node.is (c.new-2.ensures.token ∙ c.new.ensures) (c.new-2.ensures.node ∙ c.lend-node.ensures);
       node = (access_size q, map-at (λ (p : Page). node_access_size p) inside.pages.pages c.args.pid q at ∙ ap (λ (k : Kept). Some (size_if (access_size q) k)) c.in-Node.is);
     })

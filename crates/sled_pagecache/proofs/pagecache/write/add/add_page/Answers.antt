@@ -33,7 +33,7 @@ returns-in_default-access g c =
 pub returns-in_err-info : goal.returns-in_err-info
 returns-in_err-info g c =
     let at : c.len-pid.result ≡ length c.args.pages.now.pages = c.len-pid.ensures.number in
-    rw (refused-is c.from_residual.result _ c.from_residual.ensures.1, ← at, ← c.in-Ok-new.ensures)
+    rw (refused-is c.from_residual.result _ c.from_residual.ensures.1, ← at, ← c.in-Ok-new.ensures.held)
     (refuses-written g.L.Log c.in_err-info.ensures (λ of. inr ((λ all. c.if-len-eq-MAX_PAGES.false (c.len.ensures.number ∙ sym at ∙ all)), of)) c.reserve.ensures.same (inr (_, c.in-Ok-access.ensures.accessed)))
 
 pub returns : goal.returns
@@ -51,7 +51,7 @@ returns g c =
     let page = has-one-more g.L.Log.tells _ held info c.args.pages.now.pages c.reserve.new.self.pages pages _ c.reserve.ensures.same c.push_reserved.ensures refl refl alone wrote.at (λ told. (new told).1) in
     let accessed = accessed-added c.args.accesses.now c.access.new.self c.args.pages.now.pages c.reserve.new.self.pages pages _ c.len-pid.result at c.reserve.ensures.same c.push_reserved.ensures
     (subst (λ n. WasAccessed c.args.accesses.now c.len-pid.result n c.access.new.self) (takes ∙ size-alone infos info payload alone wrote.size.0) c.in-Ok-access.ensures.accessed) in
-    rw (← c.in-Ok-new.ensures) (record {
+    rw (← c.in-Ok-new.ensures.held) (record {
       is = c.in_ok-info.ensures.is;
       went = rw (← at) wrote.went;
       fault = wrote.cause.fault;

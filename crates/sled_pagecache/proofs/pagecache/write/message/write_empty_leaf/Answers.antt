@@ -1,8 +1,5 @@
-use Rattle.sled_pagecache.proofs.Names.{Node, Put, written-update}
+use Rattle.sled_pagecache.proofs.Names.{Node, Put, empty_leaf, rules, written-update}
 use Rattle.sled_pagecache.proofs.pagecache.write.message.write_empty_leaf.Goals as goal
 
-pub write-requires-clause-can_write : goal.write-requires-clause-can_write
-write-requires-clause-can_write g c = c.data.ensures.well_formed
-
 pub returns : goal.returns
-returns g c = rw (← c.default-leaf.ensures) (record { is = written-update (Put (Node c.default-leaf.result)) c.data.ensures.well_formed; writes = c.write.ensures })
+returns g c = record { is = written-update (Put (Node empty_leaf)) (search rules); writes = c.write_payload.ensures }

@@ -5,4 +5,4 @@ pub write-requires-clause-can_write : goal.write-requires-clause-can_write
 write-requires-clause-can_write g c = c.data.ensures.well_formed
 
 pub returns : goal.returns
-returns g c = rw (← c.as_node-node.ensures) (record { is = written-update (Put (Node c.as_node-node.result.now)) c.data.ensures.well_formed; writes = c.write.ensures })
+returns g c = rw (← c.in-Some.ensures) (record { is = written-update (Put (Node c.in-Some.node.now)) c.data.ensures.well_formed; writes = c.write.ensures })

@@ -2,7 +2,7 @@ use Rattle.sled_pagecache.proofs.Names.{subst, Counter, Roots, Node, Put, writte
 use Rattle.sled_pagecache.proofs.pagecache.write.swap.payload_size.Goals as goal
 
 pub returns-in-Node-clause-is : goal.returns-in-Node-clause-is
-returns-in-Node-clause-is c = rw (c.in-Node.is, ← c.as_node-node.ensures) (written-update (Put (Node c.as_node-node.result.now)) c.data.ensures.well_formed)
+returns-in-Node-clause-is c = rw (c.in-Node.is) (written-update (Put (Node c.in-Node.node)) c.written_size.ensures.well_formed)
 
 pub returns-in-Roots-clause-is : goal.returns-in-Roots-clause-is
 returns-in-Roots-clause-is c = rw (c.in-Roots.is) (written-update (Put (Roots c.in-Roots.roots)) (subst CanPut c.in-Roots.is c.requires))
