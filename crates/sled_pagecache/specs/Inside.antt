@@ -4,6 +4,7 @@ pub mod StickyLogLaws
 pub mod PageEntry
 pub mod PageTable
 pub mod HeldNodes
+pub mod HeldRoots
 pub mod Invariant
 pub mod CounterPage
 pub mod Eviction

@@ -67,7 +67,7 @@ fn page_rss<L: Log>(
         Kept::Free => Ok(0),
         Kept::Away => Ok(read_node(alloc, sticky_log, pid, page.cache_infos())?.rss(alloc)),
         Kept::Counter(_) => Ok(COUNTER_BYTES),
-        Kept::Roots(roots) => Ok(roots.rss()),
+        Kept::Roots(roots) => Ok(roots.as_meta().rss()),
         Kept::Node(node) => Ok(node.rss(alloc)),
     }
 }

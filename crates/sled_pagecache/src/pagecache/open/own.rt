@@ -18,6 +18,7 @@ ghost use Rattle.sled_pagecache.specs.Inside.Invariant.{stamps_in};
 use crate::pagecache::memory::chain::SPACE;
 use crate::pagecache::memory::reading::{Found, whole};
 use crate::pagecache::open::recovered::is_misfit;
+use crate::pagecache::table::held_roots::HeldRoots;
 use crate::pagecache::table::infos::Infos;
 use crate::pagecache::table::page::{Kept, Page};
 use crate::pagecache::table::pagetable::PageTable;
@@ -34,7 +35,7 @@ pub(crate) fn read_roots<L: Log>(
     alloc: Global,
     sticky_log: &mut StickyLog<L>,
     page: &Page,
-) -> Result<Meta, Refusal>
+) -> Result<HeldRoots, Refusal>
     requires ready { sticky_log.old.fault ≡ false }
     requires usable { (L.state sticky_log.old.log).usable ≡ true }
     requires loaded { L.tells → IsLoaded (chain_at (L.state sticky_log.old.log) 0) page.now }
@@ -54,7 +55,7 @@ pub(crate) fn read_roots<L: Log>(
         payload: payload.bytes(&space),
         pointer,
     };
-    roots_of(&found, alloc)
+    held_roots(&found, alloc)
 }
 
 // Reads the counter.
@@ -117,6 +118,17 @@ fn read_own<L: Log>(
     Ok((kind, payload, info.pointer))
 }
 
+// The root map that a message puts on its page, held in memory.
+fn held_roots(found: &Found<'_>, alloc: Global) -> Result<HeldRoots, Refusal>
+    ensures read { IfOk result
+        (λ roots. IsUpdate (found_message found.now) (contents.Put (contents.Roots roots))) }
+    ensures refused { IfErr result (RefusesMessage found.now.pointer ((roots : meta.Roots)
+        → ¬ IsUpdate (found_message found.now) (contents.Put (contents.Roots roots)))) }
+{
+    let roots = roots_of(found, alloc)?;
+    HeldRoots::new(alloc, roots).map_err(|_| Refusal::OutOfMemory)
+}
+
 // The root map that a message puts on its page.
 fn roots_of(found: &Found<'_>, alloc: Global) -> Result<Meta, Refusal>
     ensures read { IfOk result
@@ -171,13 +183,16 @@ pub(crate) fn add_roots<L: Log>(
     let Ok(()) = pages.reserve() else {
         return Err(Refusal::OutOfMemory);
     };
-    let roots = Meta::default(alloc);
+    let Ok(held) = HeldRoots::new(alloc, Meta::default(alloc)) else {
+        return Err(Refusal::OutOfMemory);
+    };
+    let roots = held.as_meta();
     let size = roots.serialized_size();
-    let info = write_roots(alloc, sticky_log, META_PID, &roots, size, 1)?;
+    let info = write_roots(alloc, sticky_log, META_PID, roots, size, 1)?;
     pages.push_reserved(Page {
         stamp: 1,
         infos: Infos::one(info),
-        kept: Kept::Roots(roots),
+        kept: Kept::Roots(held),
     });
     Ok(())
 }

@@ -7,9 +7,9 @@ ghost use Rattle.sled_pagecache.specs.Infos.{stamps_to};
 ghost use Rattle.sled_pagecache.specs.Inside.Infos.{joined_infos};
 
 use crate::pagecache::table::held::HeldNode;
+use crate::pagecache::table::held_roots::HeldRoots;
 use crate::pagecache::table::infos::Infos;
 use sled_base::{DiskPtr, Lsn, PageState};
-use sled_node::Meta;
 use std::alloc::{AllocError, Global};
 
 /// How a log keeps one message of a page: the stamp of the page once the message stood, or 0 where it was recovered, its
@@ -45,7 +45,7 @@ pub(crate) enum Kept {
     /// A content that isn't in memory.
     Away,
     Counter(u64),
-    Roots(Meta),
+    Roots(HeldRoots),
     Node(HeldNode),
 }
 

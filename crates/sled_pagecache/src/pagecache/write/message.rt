@@ -187,7 +187,7 @@ pub(crate) fn write_kept<L: Log>(
 {
     match kept {
         Kept::Node(node) => write_node(alloc, sticky_log, pid, node, size, stamp),
-        Kept::Roots(roots) => write_roots(alloc, sticky_log, pid, roots, size, stamp),
+        Kept::Roots(roots) => write_roots(alloc, sticky_log, pid, roots.as_meta(), size, stamp),
         Kept::Counter(n) => write_counter(alloc, sticky_log, pid, *n, stamp),
         Kept::Free => write_free(alloc, sticky_log, pid, stamp),
         Kept::Away => unreachable!(),

@@ -183,7 +183,7 @@ pub(crate) fn know_limits(kept: &Kept)
     match kept {
         // Every map keeps the limits, and a number is read here, which shows that it has 64 bits.
         Kept::Roots(roots) => {
-            let _ = roots.len();
+            let _ = roots.as_meta().len();
         }
         Kept::Counter(n) => {
             let _n = *n;

@@ -132,7 +132,7 @@ fn put_content<L: Log>(
     let size = payload_size(kept);
     match kept {
         Kept::Node(node) => write_node(alloc, copy, pid, node, size, 0),
-        Kept::Roots(roots) => write_roots(alloc, copy, pid, roots, size, 0),
+        Kept::Roots(roots) => write_roots(alloc, copy, pid, roots.as_meta(), size, 0),
         Kept::Counter(n) => write_counter(alloc, copy, pid, *n, 0),
         Kept::Free | Kept::Away => unreachable!(),
     }

@@ -43,7 +43,8 @@ pub(crate) fn own_roots(fault: bool, pages: &PageTable) -> Result<MetaView<'_>, 
     let Kept::Roots(roots) = &page.kept else {
         unreachable!()
     };
-    Ok(MetaView::new(roots, PageView::new(META_PID, page.stamp)))
+    let token = PageView::new(META_PID, page.stamp);
+    Ok(MetaView::new(roots.as_meta(), token))
 }
 
 // Tests a swap of a root. In this order: another root is handed back, and where the name is to have a root, one that is too long
@@ -102,9 +103,10 @@ pub(crate) fn swap_root<L: Log>(
         (kept.Roots (changed_roots name.now root (roots_in page.old.kept)))
         sticky_log.old sticky_log.new accesses.old accesses.new page.old page.new result }
 {
-    let Kept::Roots(roots) = &mut page.kept else {
+    let Kept::Roots(held) = &mut page.kept else {
         unreachable!()
     };
+    let roots = held.as_mut();
     // Every map keeps the limits.
     let _ = roots.len();
     if page.stamp == u64::MAX {

@@ -155,7 +155,7 @@ pub(crate) fn payload_size(kept: &Kept) -> u64
 {
     match kept {
         Kept::Node(node) => node.written_size(),
-        Kept::Roots(roots) => roots.serialized_size(),
+        Kept::Roots(roots) => roots.as_meta().serialized_size(),
         Kept::Counter(n) => n.serialized_size(),
         Kept::Free => 0,
         Kept::Away => unreachable!(),

@@ -8,16 +8,16 @@ pub returns-clause-read : goal.returns-clause-read
 returns-clause-read g c = λ told.
     let chain = chain_at (g.L.Log.state c.args.sticky_log.now.log) 0 in
     let only = only-lent chain c.in_ok-kind.kind (payload_in c.read_own.new.space c.in_ok-kind.payload) c.bytes.result.now c.in_ok-kind.pointer (c.in_ok-kind.ensures.found told) c.bytes.ensures in
-    IfOk-weaker c.roots_of.result _ _ (λ said is. only-makes chain c.in_ok-kind.kind c.bytes.result.now c.in_ok-kind.pointer only (Roots said) is) c.roots_of.ensures.read
+    IfOk-weaker c.held_roots.result _ _ (λ said is. only-makes chain c.in_ok-kind.kind c.bytes.result.now c.in_ok-kind.pointer only (Roots said) is) c.held_roots.ensures.read
 
 pub returns-clause-refused : goal.returns-clause-refused
 returns-clause-refused g c = λ told.
     let chain = chain_at (g.L.Log.state c.args.sticky_log.now.log) 0 in
     let only = only-lent chain c.in_ok-kind.kind (payload_in c.read_own.new.space c.in_ok-kind.payload) c.bytes.result.now c.in_ok-kind.pointer (c.in_ok-kind.ensures.found told) c.bytes.ensures in
-    IfErr-weaker c.roots_of.result _ _
+    IfErr-weaker c.held_roots.result _ _
     (refuses-only chain c.in_ok-kind.kind c.bytes.result.now c.in_ok-kind.pointer only 0 _ (λ amiss fit. amiss fit.0 (only-made chain c.in_ok-kind.kind c.bytes.result.now c.in_ok-kind.pointer only (Roots fit.0) fit.1)))
-    c.roots_of.ensures.refused
+    c.held_roots.ensures.refused
 
 pub returns-clause-reads : goal.returns-clause-reads
 returns-clause-reads g c =
-    judged-reads g.L.Log c.args.sticky_log.now c.read_own.new.sticky_log c.roots_of.result (c.in_ok-kind.kind, c.in_ok-kind.payload, c.in_ok-kind.pointer) 1 c.in_ok-kind.ensures.reads
+    judged-reads g.L.Log c.args.sticky_log.now c.read_own.new.sticky_log c.held_roots.result (c.in_ok-kind.kind, c.in_ok-kind.payload, c.in_ok-kind.pointer) 1 c.in_ok-kind.ensures.reads

@@ -7,24 +7,27 @@ use Rattle.sled_pagecache.proofs.pagecache.write.roots.swap_root.Goals as goal
 
 pub returns : goal.returns
 returns g c =
-    let map = changed_map c.args.name.now c.args.root c.in-Roots.roots c.len.ensures.map (search rules) (search rules) in
+    let is = c.in-Roots.is ∙ ap kept.Roots (sym c.as_mut-roots.ensures.roots) in
+    let map = changed_map c.args.name.now c.args.root c.as_mut-roots.result.now c.len.ensures.map (search rules) (search rules) in
     let done = c.in_ok-info.ensures in
-    rw c.in-Roots.is
-    (makes-written g.L.Log (kept.Roots (changed_roots c.args.name.now c.args.root c.in-Roots.roots)) map (record { is = written-update (Put (Roots (changed_roots c.args.name.now c.args.root c.in-Roots.roots))) map; writes = done.put.writes }) c.requires.there
+    rw is
+    (makes-written g.L.Log (kept.Roots (changed_roots c.args.name.now c.args.root c.as_mut-roots.result.now)) map (record { is = written-update (Put (Roots (changed_roots c.args.name.now c.args.root c.as_mut-roots.result.now))) map; writes = done.put.writes }) c.requires.there
     (search rules) c.keep_alone.ensures.stamp c.keep_alone.ensures.infos (c.keep_alone.ensures.kept ∙ ap kept.Roots done.changed) refl done.put.accessed)
 
 -- the stamp is the greatest
 pub returns-then-page : goal.returns-then-page
 returns-then-page g c =
+    let is = c.in-Roots.is ∙ ap kept.Roots (sym c.as_mut-roots.ensures.roots) in
     let roots = changed_roots c.args.name.now c.args.root (roots_in c.args.page.now.kept) in
-    let map = changed_map c.args.name.now c.args.root (roots_in c.args.page.now.kept) (rw c.in-Roots.is c.len.ensures.map) c.requires.can (search rules) in
-    refuses-unasked g.L.Log c.requires.ready c.requires.usable (search rules) StampUsedUp (λ is. cc) (written-update (Put (Roots roots)) map) (inl (c.if-page.true, refl)) (same-page _ _ _ _ (sym c.in-Roots.is))
+    let map = changed_map c.args.name.now c.args.root (roots_in c.args.page.now.kept) (rw is c.len.ensures.map) c.requires.can (search rules) in
+    refuses-unasked g.L.Log c.requires.ready c.requires.usable (search rules) StampUsedUp (λ is. cc) (written-update (Put (Roots roots)) map) (inl (c.if-page.true, refl)) (same-page _ _ _ _ (sym is))
 
 -- the map could not be written
 pub returns-in_err-info : goal.returns-in_err-info
 returns-in_err-info g c =
+    let is = c.in-Roots.is ∙ ap kept.Roots (sym c.as_mut-roots.ensures.roots) in
     let refused = c.in_err-info.ensures in
     let roots = changed_roots c.args.name.now c.args.root (roots_in c.args.page.now.kept) in
     let wrote : Wrote g.L.Log c.args.sticky_log.now c.put_changed.new.sticky_log 0 (Put (Roots roots)) (c.args.page.now.stamp + 1) (Err c.in_err-info.field-0.0) =
-    rw c.in-Roots.is (record { is = written-update (Put (Roots (changed_roots c.args.name.now c.args.root c.in-Roots.roots))) (changed_map c.args.name.now c.args.root c.in-Roots.roots c.len.ensures.map (search rules) (search rules)); writes = refused.put.writes }) in
-    rw (refused-is c.from_residual.result _ c.from_residual.ensures.1) (refuses-written g.L.Log wrote (λ of. inr (c.if-page.false, of)) (same-page _ _ _ _ (ap kept.Roots refused.left ∙ sym c.in-Roots.is)) refused.put.touched)
+    rw is (record { is = written-update (Put (Roots (changed_roots c.args.name.now c.args.root c.as_mut-roots.result.now))) (changed_map c.args.name.now c.args.root c.as_mut-roots.result.now c.len.ensures.map (search rules) (search rules)); writes = refused.put.writes }) in
+    rw (refused-is c.from_residual.result _ c.from_residual.ensures.1) (refuses-written g.L.Log wrote (λ of. inr (c.if-page.false, of)) (same-page _ _ _ _ (ap kept.Roots refused.left ∙ sym is)) refused.put.touched)
