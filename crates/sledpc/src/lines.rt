@@ -81,7 +81,8 @@ enum Ended {
     Part,
 }
 
-/// Reads the next line into `kept`, without its newline. Of a line that is too long at most [`MAX_LINE`] bytes and one are kept.
+/// Reads the next line into `kept`, without its newline. Of a line that is too long at most [`MAX_LINE`] bytes and one are kept. What is known
+/// of the lines that the reader has buffered is taken from `ahead` and put there.
 ///
 /// At [`ReadError::Memory`] an allocation failed for bytes that the reader still has. At [`ReadError::Read`] the input was not
 /// read behind what was kept.

@@ -1,7 +1,6 @@
 //! One line of the script, and the reply to it.
 
 ghost use Rattle.std.specs.Prelude.{◌≡◌, ◌++◌, ◌∷◌, [], ◌≤◌, None, Some, codes, length};
-ghost use Rattle.std.specs.Option.{option_map};
 ghost use Rattle.sled_node.specs.Node.{empty_leaf};
 ghost use Rattle.sledpc.specs.Commands.{mark_word};
 ghost use Rattle.sledpc.specs.Output.{Gathers};
