@@ -10,6 +10,7 @@ use sled_base::{Error, PageId, Refusal};
 
 // Ends a swap whose page was written or refused: pages out what the list dropped for it, and with that the page of a refused one.
 // It answers the token, which the page has once it was written.
+#[inline(always)]
 pub(crate) fn end_swap<R: Drop>(
     pages: &mut PageTable,
     accesses: &mut Accesses,

@@ -24,6 +24,7 @@ use sled_node::Link;
 use std::alloc::Global;
 
 // Reads the node of a page from the log, unless what the page holds lies in memory. A refusal leaves the page.
+#[inline(always)]
 pub(crate) fn pull<L: Log>(
     alloc: Global,
     sticky_log: &mut StickyLog<L>,

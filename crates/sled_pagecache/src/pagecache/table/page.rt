@@ -145,6 +145,7 @@ impl Clone for Kept {
 }
 
 // Keeps how a message is kept that joins the others of a page, or takes their place, at the next stamp of the page.
+#[inline(always)]
 pub(crate) fn keep_linked(joins: bool, page: &mut Page, info: CacheInfo)
     requires below { page.old.stamp < 2 ^ 64 - 1 }
     requires room { joins ≡ true → page.old.infos.room ≡ true }

@@ -228,6 +228,7 @@ fn write<L: Log, T: Serialize>(
 }
 
 // Writes a value over all of these bytes.
+#[inline(always)]
 fn fill<T: Serialize>(value: &T, bytes: &mut [u8])
     requires can_write { T.can_write value.now }
     requires exact { length bytes.old ≡ length (T.written value.now) }

@@ -228,6 +228,7 @@ fn accepts(alloc: Global, node: &HeldNode, link: &Link) -> bool
 }
 
 // Makes room for the message of a link that joins the others, and applies the link. A refusal leaves both.
+#[inline(always)]
 fn prepare(
     joins: bool,
     alloc: Global,
@@ -249,6 +250,7 @@ fn prepare(
 }
 
 // In how many bytes a link is written that joins the other messages, or else the node that it made.
+#[inline(always)]
 fn linked_size(joins: bool, node: &HeldNode, link: &Link) -> u64
     requires { CanWriteLink link.now }
     ensures { result ≡ length (message_of (joined_update joins link.now node.now)).payload }
