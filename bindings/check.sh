@@ -31,23 +31,27 @@ trap 'rm -rf "$files"' EXIT
 chmod 755 "$files"
 compile no_memory "$out/dilluvas_file.c" -Wl,--wrap=malloc,--wrap=calloc,--wrap=realloc,--wrap=free
 "$out/no_memory" "$files"
-failing=-Wl,--wrap=pread,--wrap=pwrite,--wrap=fdatasync,--wrap=fsync,--wrap=rename
+failing=-Wl,--wrap=pread,--wrap=pwrite,--wrap=fdatasync,--wrap=fsync,--wrap=rename,--wrap=link
 compile file "$here/c/failing.c" "$out/dilluvas_file.c" "$failing"
 "$out/file" "$files"
-for name in compact compact_failing; do
+for name in compact compact_failing processes; do
     compile "$name" "$here/c/steps.c" "$here/c/failing.c" "$out/dilluvas_file.c" "$failing"
     "$out/$name" "$files"
 done
+compile meanwhile "$here/c/steps.c" "$here/c/failing.c" "$out/dilluvas_file.c" "$failing,--wrap=open"
+"$out/meanwhile" "$files"
 compile paths "$out/dilluvas_file.c" -Wl,--wrap=pread,--wrap=fsync
 "$out/paths" "$files"
 rm -rf "$files/paths"
 compile killed "$out/dilluvas_file.c" -Wl,--wrap=pwrite,--wrap=fdatasync,--wrap=fsync,--wrap=rename
 "$out/killed" "$files" 200
+"$here/races.sh"
+"$here/races.sh" 2
 compile script "$here/c/script_lines.c" "$out/dilluvas_file.c"
 awk -v seed=1 -v lines=300 -v parts=1 -v name="$files/script" -v over_file=0 -v moves=1 -f "$here/scripts.awk"
 if command -v valgrind >/dev/null; then
     for program in calls "no_memory $files" "file $files" "compact $files" \
-        "compact_failing $files" "paths $files" 'script mem' "script file $files/log"; do
+        "compact_failing $files" "processes $files" "meanwhile $files" "paths $files" 'script mem' "script file $files/log"; do
         # shellcheck disable=SC2086 # a program and its arguments
         valgrind -q --child-silent-after-fork=yes --error-exitcode=1 --leak-check=full --show-leak-kinds=all "$out/"$program \
             <"$files/script.1" >/dev/null

@@ -141,6 +141,11 @@ static void what_a_killed_process_left_is_made_anew(void) {
     IS(compact(&file), DILLUVAS_OK);
     IS(size_of(path), 82);
     IS(size_of(other), -1);
+    /* one that was killed as it had made the file left it that name too */
+    IS(link(path, other), 0);
+    IS(compact(&file), DILLUVAS_OK);
+    IS(size_of(path), 82);
+    IS(size_of(other), -1);
     /* a link by that name leads to no other file's end */
     put("precious", "bytes", 0644);
     IS(symlink("precious", other), 0);

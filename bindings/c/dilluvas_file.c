@@ -13,7 +13,7 @@ enum {
     ROOM = 65536,      /* bytes of the buffer */
     LEAST_READ = 4096, /* so many are read at least: what a page's later messages need often stands near */
     LEAST_PART = 4194304, /* so many bytes of the file are read together first as it is rewritten */
-    MOST_TRIES = 100,  /* so often is a file opened again whose place another took meanwhile */
+    MOST_TRIES = 100,  /* so often is begun anew where another file took the place meanwhile */
     OFFSETS_HAVE_64_BITS = 1 / (sizeof(off_t) >= 8)
 };
 
@@ -96,6 +96,12 @@ static bool are_one_file(const struct stat *one, const struct stat *other) {
     return one->st_dev == other->st_dev && one->st_ino == other->st_ino;
 }
 
+/* Unlocks a file that this process has locked, and closes it: one that is just being started has it open too. */
+static void let_go(int descriptor) {
+    flock(descriptor, LOCK_UN);
+    close(descriptor);
+}
+
 /* Locks a file, and writes how many bytes it has. */
 static dilluvas_status lock_file(int descriptor, struct stat *found) {
     if (fstat(descriptor, found) != 0) return DILLUVAS_READ;
@@ -104,7 +110,8 @@ static dilluvas_status lock_file(int descriptor, struct stat *found) {
     return fstat(descriptor, found) == 0 ? DILLUVAS_OK : DILLUVAS_READ;
 }
 
-/* Opens the file of a path and locks it. NONE: there is none. */
+/* Opens the file of a path and locks it. It is ours once the path is seen to lead to it behind the lock: from then on no program that locks
+ * files gives the path to another, or takes it away. NONE: there is none. */
 static dilluvas_status open_locked(const char *path, int flags, int *descriptor, struct stat *found) {
     for (int tried = 0; tried < MOST_TRIES; tried++) {
         struct stat present;
@@ -117,7 +124,7 @@ static dilluvas_status open_locked(const char *path, int flags, int *descriptor,
             *descriptor = opened;
             return DILLUVAS_OK;
         }
-        close(opened);
+        let_go(opened);
         if (status != DILLUVAS_OK) return status;
         /* another file took its place before it was locked */
     }
@@ -175,11 +182,7 @@ static void close_all(dilluvas_file *file) {
     dilluvas_close(&file->cache);
     free(file->buffer);
     free(file->path);
-    if (file->descriptor >= 0) {
-        /* a process that is just being started has it open too */
-        flock(file->descriptor, LOCK_UN);
-        close(file->descriptor);
-    }
+    if (file->descriptor >= 0) let_go(file->descriptor);
     file->buffer = NULL;
     file->path = NULL;
     file->descriptor = -1;
@@ -206,18 +209,68 @@ static char *name_while_made(const char *path) {
     return other;
 }
 
+/* Makes an empty file by another name, and locks it. `old`, where it isn't null, is the file that is to lose its place, which this process has
+ * locked.
+ *
+ * A process that was killed may have left a file there. Its name is taken away and nothing of it is cut off: it may be the one that has the
+ * path, or be kept by a third name. */
+static dilluvas_status make_other(const char *other, const struct stat *old, int *descriptor) {
+    for (int tried = 0; tried < MOST_TRIES; tried++) {
+        struct stat found;
+        bool is_old = old && lstat(other, &found) == 0 && are_one_file(old, &found);
+        if (is_old && unlink(other) != 0) return DILLUVAS_NO_ACCESS;
+        dilluvas_status status = open_locked(other, O_CREAT | O_NOFOLLOW, descriptor, &found);
+        if (status != DILLUVAS_OK) return status == DILLUVAS_NONE ? DILLUVAS_NO_ACCESS : status;
+        if (found.st_size == 0 && found.st_nlink <= 1) return DILLUVAS_OK;
+        bool is_gone = unlink(other) == 0;
+        let_go(*descriptor);
+        *descriptor = -1;
+        if (!is_gone) return DILLUVAS_NO_ACCESS;
+    }
+    return DILLUVAS_NO_ACCESS;
+}
+
+/* Whether a path leads to no file, or to the empty one that is given. */
+static bool is_as_found(const char *path, const struct stat *empty) {
+    struct stat found;
+    if (lstat(path, &found) != 0) return !empty;
+    return empty && are_one_file(empty, &found) && found.st_size == 0;
+}
+
+/* Puts an empty file in place, where the system has no second names for files: then it is made as in place of that. */
+static dilluvas_status put_empty(const char *path) {
+    int descriptor = open(path, O_RDWR | O_CREAT | O_EXCL | O_CLOEXEC, 0666);
+    if (descriptor < 0 && errno != EEXIST) return DILLUVAS_NO_ACCESS;
+    if (descriptor >= 0) close(descriptor);
+    return DILLUVAS_STALE;
+}
+
+/* Gives a file its own name, which no other file loses by that but the empty one that is given. STALE: the path leads elsewhere by now. */
+static dilluvas_status put_in_place(const char *path, const char *other, const struct stat *empty) {
+    if (empty) {
+        if (!is_as_found(path, empty)) return DILLUVAS_STALE;
+        return rename(other, path) == 0 ? DILLUVAS_OK : DILLUVAS_NO_ACCESS;
+    }
+    if (link(other, path) == 0) {
+        unlink(other);
+        return DILLUVAS_OK;
+    }
+    if (errno == EEXIST) return DILLUVAS_STALE;
+    bool has_links = errno != EPERM && errno != EOPNOTSUPP && errno != ENOTSUP && errno != ENOSYS && errno != EMLINK;
+    return has_links ? DILLUVAS_NO_ACCESS : put_empty(path);
+}
+
 /* Makes a file by another name, and gives it its own once it is durable. The other name is kept by one process at a time. */
 static dilluvas_status make(dilluvas_file *file, const char *path, const char *other, const struct stat *empty,
                             const dilluvas_file_settings *settings) {
-    struct stat found;
-    dilluvas_status status = open_locked(other, O_CREAT | O_NOFOLLOW, &file->descriptor, &found);
-    if (status != DILLUVAS_OK) return status == DILLUVAS_NONE ? DILLUVAS_NO_ACCESS : status;
-    /* another process may have made the file meanwhile, and one that was killed may have left bytes */
-    if (stat(path, &found) == 0 && found.st_size > 0) status = DILLUVAS_HELD;
-    else if (ftruncate(file->descriptor, 0) != 0) status = DILLUVAS_WRITE;
+    dilluvas_status status = make_other(other, empty, &file->descriptor);
+    if (status != DILLUVAS_OK) return status;
+    /* another process may have made the file meanwhile */
+    if (!is_as_found(path, empty)) status = DILLUVAS_STALE;
     else if (empty && !give_owner_and_mode(file->descriptor, empty)) status = DILLUVAS_WRITE;
     else status = open_cache(file, settings, 0);
-    if (status == DILLUVAS_OK && rename(other, path) != 0) status = DILLUVAS_NO_ACCESS;
+    if (status == DILLUVAS_OK) status = put_in_place(path, other, empty);
+    /* it is still locked, so the name is this file's */
     if (status != DILLUVAS_OK) unlink(other);
     return status;
 }
@@ -248,29 +301,32 @@ static dilluvas_status make_of_empty(dilluvas_file *file, const char *path, cons
     int descriptor = file->descriptor;
     file->descriptor = -1;
     dilluvas_status status = realpath(path, real) ? make_new(file, real, empty, settings) : DILLUVAS_NO_ACCESS;
-    close(descriptor);
+    let_go(descriptor);
     return status;
 }
 
-dilluvas_status dilluvas_file_open(dilluvas_file *file, const char *path, const dilluvas_file_settings *settings) {
+/* Opens a file or makes it. STALE: while it was made, the path came to lead elsewhere. */
+static dilluvas_status open_or_make(dilluvas_file *file, const char *path, const dilluvas_file_settings *settings) {
     struct stat found;
+    dilluvas_status status = open_locked(path, 0, &file->descriptor, &found);
+    if (status == DILLUVAS_NONE) return make_absent(file, path, settings);
+    if (status != DILLUVAS_OK) return status;
+    if (found.st_size == 0) return make_of_empty(file, path, &found, settings);
+    return sync_name(path) ? open_cache(file, settings, (uint64_t)found.st_size) : DILLUVAS_WRITE;
+}
+
+dilluvas_status dilluvas_file_open(dilluvas_file *file, const char *path, const dilluvas_file_settings *settings) {
     if (!file || !path) return DILLUVAS_ARGUMENTS;
     if (file->buffer) return DILLUVAS_ALREADY_OPEN;
     file->descriptor = -1;
-    dilluvas_status status = open_locked(path, 0, &file->descriptor, &found);
-    if (status == DILLUVAS_OK && found.st_size > 0) {
-        status = sync_name(path) ? open_cache(file, settings, (uint64_t)found.st_size) : DILLUVAS_WRITE;
-    } else if (status == DILLUVAS_OK) {
-        status = make_of_empty(file, path, &found, settings);
-    } else if (status == DILLUVAS_NONE) {
-        status = make_absent(file, path, settings);
+    dilluvas_status status = DILLUVAS_STALE;
+    for (int tried = 0; status == DILLUVAS_STALE && tried < MOST_TRIES; tried++) {
+        status = open_or_make(file, path, settings);
+        if (status != DILLUVAS_OK) close_all(file);
     }
-    if (status != DILLUVAS_OK) {
-        close_all(file);
-    } else if (!realpath(path, file->path)) {
-        /* it was taken away since */
-        file->path[0] = 0;
-    }
+    if (status == DILLUVAS_STALE) return DILLUVAS_NO_ACCESS;
+    /* it may have been taken away since */
+    if (status == DILLUVAS_OK && !realpath(path, file->path)) file->path[0] = 0;
     return status;
 }
 
@@ -318,11 +374,9 @@ static dilluvas_status rewrite(dilluvas_file *file, dilluvas_file *next) {
 static dilluvas_status make_compact(dilluvas_file *file, dilluvas_file *next, const char *other) {
     struct stat old, found;
     if (fstat(file->descriptor, &old) != 0) return DILLUVAS_READ;
-    dilluvas_status status = open_locked(other, O_CREAT | O_NOFOLLOW, &next->descriptor, &found);
-    if (status != DILLUVAS_OK) return status == DILLUVAS_NONE ? DILLUVAS_NO_ACCESS : status;
-    /* a process that was killed may have left bytes */
-    bool is_made = ftruncate(next->descriptor, 0) == 0 && give_owner_and_mode(next->descriptor, &old);
-    status = is_made ? rewrite(file, next) : DILLUVAS_WRITE;
+    dilluvas_status status = make_other(other, &old, &next->descriptor);
+    if (status != DILLUVAS_OK) return status;
+    status = give_owner_and_mode(next->descriptor, &old) ? rewrite(file, next) : DILLUVAS_WRITE;
     if (status == DILLUVAS_OK) DILLUVAS_FILE_CALL(next, status, dilluvas_open_file(&next->cache, &file->settings, 0));
     bool is_there = stat(file->path, &found) == 0 && are_one_file(&old, &found);
     if (status == DILLUVAS_OK && (!is_there || rename(other, file->path) != 0)) status = DILLUVAS_NO_ACCESS;

@@ -30,7 +30,8 @@ typedef struct dilluvas_file {
 
 /* Opens a cache over the file of a path, which is locked as by flock until it is closed. Null settings are DILLUVAS_FILE_SETTINGS. A file
  * that is absent or empty is made: with ".dilluvas-new" behind its name until it is whole and durable, so a crash leaves it whole or as it
- * was. It has the owner and the mode of the empty one, and a link to that stays. None is made where a link leads to no file.
+ * was; only where the file system has no hard links it may leave an empty one. It has the owner and the mode of the empty one, and a link to
+ * that stays. None is made where a link leads to no file. It takes no other file's place: one that came meanwhile is opened.
  *
  * Answers ARGUMENTS; ALREADY_OPEN; NO_FILE, NO_ACCESS, HELD; and what dilluvas_open_file does but NEEDS. Nothing is open then, and what the
  * file holds is as it was. */

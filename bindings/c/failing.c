@@ -14,6 +14,7 @@ void is(int line, unsigned long long got, unsigned long long wanted) {
 
 long made[KINDS], fails_at[KINDS] = {-1, -1, -1};
 bool lasting;
+int no_links;
 void (*watch)(void);
 
 static bool fails(enum kind kind) {
@@ -51,12 +52,14 @@ ssize_t __real_pread(int descriptor, void *bytes, size_t len, off_t at);
 int __real_fdatasync(int descriptor);
 int __real_fsync(int descriptor);
 int __real_rename(const char *old, const char *new);
+int __real_link(const char *old, const char *new);
 
 ssize_t __wrap_pread(int descriptor, void *bytes, size_t len, off_t at);
 ssize_t __wrap_pwrite(int descriptor, const void *bytes, size_t len, off_t at);
 int __wrap_fdatasync(int descriptor);
 int __wrap_fsync(int descriptor);
 int __wrap_rename(const char *old, const char *new);
+int __wrap_link(const char *old, const char *new);
 
 ssize_t __wrap_pread(int descriptor, void *bytes, size_t len, off_t at) {
     if (is_interrupted() || fails(READS)) return -1;
@@ -87,5 +90,13 @@ int __wrap_rename(const char *old, const char *new) {
     look();
     int done = __real_rename(old, new);
     look();
+    return done;
+}
+
+int __wrap_link(const char *old, const char *new) {
+    look();
+    int done = no_links ? -1 : __real_link(old, new);
+    if (no_links) errno = no_links;
+    else look();
     return done;
 }

@@ -1,5 +1,5 @@
 /* What the programs share that let calls of the system fail: checks, and the calls. Linked with failing.c, and --wrap=pread, --wrap=pwrite,
- * --wrap=fdatasync, --wrap=fsync and --wrap=rename. */
+ * --wrap=fdatasync, --wrap=fsync, --wrap=rename and --wrap=link. */
 #ifndef FAILING_H
 #define FAILING_H
 
@@ -19,6 +19,9 @@ enum kind { READS, WRITES, SYNCS, KINDS };
 /* How many calls of each kind were made, and before which one of a kind they begin to fail: that one alone, or all. */
 extern long made[KINDS], fails_at[KINDS];
 extern bool lasting;
+
+/* Why no file gets a second name, unless that is 0. */
+extern int no_links;
 
 /* Nothing fails from here on, and nothing was made. */
 void all_goes_well(void);

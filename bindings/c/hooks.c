@@ -8,7 +8,7 @@
 #include <sys/types.h>
 #include <unistd.h>
 
-enum { READ, WRITE, SYNC, SYNC_FOLDER, CUT, RENAME, UNLINK };
+enum { READ, WRITE, SYNC, SYNC_FOLDER, RENAME, UNLINK, LINK };
 
 /* Answers what the call would, or the number of an error below 0. A name stands in place of bytes, and a second one in place of `at`. */
 typedef int64_t (*hook)(int kind, int descriptor, const void *bytes, size_t len, int64_t at);
@@ -84,10 +84,6 @@ static int hooked_fsync(int descriptor) {
     return (int)call(SYNC_FOLDER, descriptor, NULL, 0, 0);
 }
 
-static int hooked_ftruncate(int descriptor, off_t size) {
-    return (int)call(CUT, descriptor, NULL, 0, size);
-}
-
 static int hooked_rename(const char *old, const char *new) {
     return (int)call(RENAME, -1, old, 0, (int64_t)(intptr_t)new);
 }
@@ -96,12 +92,16 @@ static int hooked_unlink(const char *path) {
     return (int)call(UNLINK, -1, path, 0, 0);
 }
 
+static int hooked_link(const char *old, const char *new) {
+    return (int)call(LINK, -1, old, 0, (int64_t)(intptr_t)new);
+}
+
 #define pread hooked_pread
 #define pwrite hooked_pwrite
 #define fdatasync hooked_fdatasync
 #define fsync hooked_fsync
-#define ftruncate hooked_ftruncate
 #define rename hooked_rename
 #define unlink hooked_unlink
+#define link hooked_link
 #undef _DEFAULT_SOURCE
 #include "dilluvas_file.c"

@@ -116,6 +116,24 @@ static void no_other_file_is_written(void) {
     IS(size_of("made.dilluvas-new"), -1);
 }
 
+/* One that was killed may have left the other name to a file that it had made. It loses that name alone. */
+static void a_file_of_two_names_stays(void) {
+    struct stat moved, made;
+    IS(rename("made", "moved") + link("moved", "made.dilluvas-new"), 0);
+    IS(opened("made"), DILLUVAS_OK);
+    IS(stat("moved", &moved) + stat("made", &made), 0);
+    IS(moved.st_ino != made.st_ino && moved.st_size == made.st_size, true);
+    IS(size_of("made.dilluvas-new"), -1);
+    /* so does an empty one, which isn't made by that name, whether the path leads there or not */
+    put("third", "", 0644);
+    IS(link("third", "made too.dilluvas-new"), 0);
+    IS(opened("made too"), DILLUVAS_OK);
+    IS(size_of("third"), 0);
+    IS(link("third", "third.dilluvas-new"), 0);
+    IS(opened("third"), DILLUVAS_OK);
+    IS(size_of("third.dilluvas-new"), -1);
+}
+
 /* A file that is all zeros is closed too, and its descriptor isn't the standard input. */
 static void zeros_are_closed(void) {
     dilluvas_file file;
@@ -198,6 +216,7 @@ int main(int count, char **arguments) {
     links_stay();
     an_empty_file_keeps_its_mode();
     no_other_file_is_written();
+    a_file_of_two_names_stays();
     zeros_are_closed();
     a_name_is_synced();
     a_bad_block_harms_its_pages_alone();

@@ -11,7 +11,7 @@ from ctypes import POINTER, byref, c_bool, c_char_p, c_int, c_int64, c_long, c_s
 from dilluvas import Cache, _check, _FileSettings, _Handle, _LIBRARY, _number
 from faults import PowerCut
 
-_READ, _WRITE, _SYNC, _SYNC_FOLDER, _CUT, _RENAME, _UNLINK = range(7)
+_READ, _WRITE, _SYNC, _SYNC_FOLDER, _RENAME, _UNLINK, _LINK = range(7)
 _HOOK = ctypes.CFUNCTYPE(c_int64, c_int, c_int, c_void_p, c_size_t, c_int64)
 
 
@@ -82,12 +82,11 @@ class Loop:
             return len(read)
         if kind == _WRITE:
             return system.pwrite(descriptor, ctypes.string_at(data, length), at)
-        if kind == _RENAME:
-            return system.rename(os.fsdecode(ctypes.string_at(data)), os.fsdecode(ctypes.string_at(at)))
+        if kind in (_RENAME, _LINK):
+            give = system.rename if kind == _RENAME else system.link
+            return give(os.fsdecode(ctypes.string_at(data)), os.fsdecode(ctypes.string_at(at)))
         if kind == _UNLINK:
             return system.unlink(os.fsdecode(ctypes.string_at(data)))
-        if kind == _CUT:
-            return system.ftruncate(descriptor, at)
         return system.fdatasync(descriptor) if kind == _SYNC else system.fsync(descriptor)
 
 
