@@ -19,6 +19,12 @@ enum {
 
 /* ---- Reading and writing. */
 
+/* Whether this process opened the file. One that was forked since has a copy of the cache, while the file and its lock are one for both: were
+ * it to write there, neither cache would be what the file holds. */
+static bool is_own(const dilluvas_file *file) {
+    return file->process == getpid();
+}
+
 static bool write_all(int descriptor, const uint8_t *bytes, size_t len, uint64_t at) {
     while (len > 0) {
         ssize_t written = pwrite(descriptor, bytes, len, (off_t)at);
@@ -56,6 +62,7 @@ static bool sync_data(int descriptor) {
 static bool do_tasks(dilluvas_file *file) {
     dilluvas_task task;
     while (dilluvas_next_task(&file->cache, &task, file->buffer, ROOM) == DILLUVAS_OK && task.kind != DILLUVAS_NOTHING) {
+        if (!is_own(file)) return false;
         bool done = task.kind == DILLUVAS_SYNC ? sync_data(file->descriptor) : write_all(file->descriptor, file->buffer, task.len, task.at);
         if (!done) return false;
     }
@@ -66,6 +73,7 @@ static bool do_tasks(dilluvas_file *file) {
 static dilluvas_status read_needed(dilluvas_file *file) {
     uint64_t at = 0;
     size_t len = 0, got;
+    if (!is_own(file)) return DILLUVAS_READ;
     dilluvas_status status = dilluvas_needs(&file->cache, &at, &len);
     while (status == DILLUVAS_OK && len > 0) {
         size_t piece = len < LEAST_READ ? LEAST_READ : len < ROOM ? len : ROOM;
@@ -177,12 +185,16 @@ static dilluvas_status open_cache(dilluvas_file *file, const dilluvas_file_setti
     return status;
 }
 
-/* Closes what is open of a file that isn't to be used. */
+/* Closes what is open of a file that isn't to be used. The lock is one for all processes that have the file open since it was opened once, and
+ * belongs to the one that opened it. */
 static void close_all(dilluvas_file *file) {
     dilluvas_close(&file->cache);
     free(file->buffer);
     free(file->path);
-    if (file->descriptor >= 0) let_go(file->descriptor);
+    if (file->descriptor >= 0) {
+        if (is_own(file)) flock(file->descriptor, LOCK_UN);
+        close(file->descriptor);
+    }
     file->buffer = NULL;
     file->path = NULL;
     file->descriptor = -1;
@@ -319,6 +331,7 @@ dilluvas_status dilluvas_file_open(dilluvas_file *file, const char *path, const 
     if (!file || !path) return DILLUVAS_ARGUMENTS;
     if (file->buffer) return DILLUVAS_ALREADY_OPEN;
     file->descriptor = -1;
+    file->process = getpid();
     dilluvas_status status = DILLUVAS_STALE;
     for (int tried = 0; status == DILLUVAS_STALE && tried < MOST_TRIES; tried++) {
         status = open_or_make(file, path, settings);
@@ -398,6 +411,10 @@ dilluvas_status dilluvas_file_compact(dilluvas_file *file) {
     dilluvas_file next = DILLUVAS_FILE_CLOSED;
     if (!file) return DILLUVAS_ARGUMENTS;
     if (!file->buffer) return DILLUVAS_NOT_OPEN;
+    if (!is_own(file)) {
+        dilluvas_failed(&file->cache);
+        return DILLUVAS_WRITE;
+    }
     uint64_t bytes;
     dilluvas_status status;
     DILLUVAS_FILE_CALL(file, status, dilluvas_size(&file->cache, &bytes));
@@ -406,6 +423,7 @@ dilluvas_status dilluvas_file_compact(dilluvas_file *file) {
     if (folder < 0) return DILLUVAS_NO_ACCESS;
     char *other = name_while_made(file->path);
     next.buffer = calloc(1, ROOM);
+    next.process = file->process;
     status = other && next.buffer ? make_compact(file, &next, other) : DILLUVAS_MEMORY;
     if (status == DILLUVAS_OK) {
         swap(file, &next);

@@ -6,11 +6,16 @@
  *     if (status == DILLUVAS_OK) DILLUVAS_FILE_CALL(&file, status, dilluvas_flush(&file.cache, &written));
  *     dilluvas_file_close(&file);
  *
- * What dilluvas.h says that a program owes holds of a dilluvas_file too. Compile dilluvas_file.c with the program. */
+ * What dilluvas.h says that a program owes holds of a dilluvas_file too. Compile dilluvas_file.c with the program.
+ *
+ * The file is the process's that opened it. A process that is forked has a copy of the cache, but file and lock are one for both, so there no
+ * byte of the file is read or written: a call that would write answers WRITE, one that would read answers READ, dilluvas_file_compact answers
+ * WRITE, and dilluvas_file_close leaves the file locked. It is held until each process that has it has closed it, or the one that opened it. */
 #ifndef DILLUVAS_FILE_H
 #define DILLUVAS_FILE_H
 
 #include "dilluvas.h"
+#include <sys/types.h>
 
 #ifdef __cplusplus
 extern "C" {
@@ -23,10 +28,11 @@ typedef struct dilluvas_file {
     uint8_t *buffer;
     char *path;
     dilluvas_file_settings settings;
+    pid_t process;
 } dilluvas_file;
 
 /* One before its first call, and behind dilluvas_file_close. */
-#define DILLUVAS_FILE_CLOSED {DILLUVAS_CLOSED, -1, NULL, NULL, {0, 0, 0}}
+#define DILLUVAS_FILE_CLOSED {DILLUVAS_CLOSED, -1, NULL, NULL, {0, 0, 0}, 0}
 
 /* Opens a cache over the file of a path, which is locked as by flock until it is closed. Null settings are DILLUVAS_FILE_SETTINGS. A file
  * that is absent or empty is made: with ".dilluvas-new" behind its name until it is whole and durable, so a crash leaves it whole or as it

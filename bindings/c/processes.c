@@ -1,5 +1,6 @@
-/* What a cache over a file owes to the processes of a system: it is held while it is made. Prints the line of each check that fails: the
- * status is 1 then. Linked with steps.c and failing.c. Usage: processes FOLDER, in which it makes its files. */
+/* What a cache over a file owes to the processes of a system: it is held while it is made, and a process that was forked doesn't write to it
+ * and leaves it locked. Prints the line of each check that fails: the status is 1 then. Linked with steps.c and failing.c. Usage: processes
+ * FOLDER, in which it makes its files. */
 #include "steps.h"
 #include <signal.h>
 #include <stdio.h>
@@ -34,9 +35,88 @@ static void it_is_held_while_it_is_made(void) {
     }
 }
 
+/* ---- A process that was forked. */
+
+enum { PAGES = 20 };
+
+static dilluvas_file parents;
+
+/* What is in memory is read as before, and closing leaves the lock to the parent. */
+static int uses_the_copy(void) {
+    is_leaf(&parents, 2, 1, 1);
+    IS(dilluvas_file_close(&parents), DILLUVAS_OK);
+    return failures;
+}
+
+static int flushes_the_copy(void) {
+    uint64_t page, stamp;
+    size_t written;
+    DILLUVAS_FILE_CALL(&parents, status, dilluvas_allocate(&parents.cache, NULL, 0, &page, &stamp));
+    IS(status, DILLUVAS_OK);
+    DILLUVAS_FILE_CALL(&parents, status, dilluvas_flush(&parents.cache, &written));
+    IS(status, DILLUVAS_WRITE);
+    DILLUVAS_FILE_CALL(&parents, status, dilluvas_pin(&parents.cache));
+    IS(status, DILLUVAS_WRITE);
+    return failures;
+}
+
+static int rewrites_the_copy(void) {
+    all_goes_well();
+    IS(compact(&parents), DILLUVAS_WRITE);
+    IS(made[READS] + made[WRITES] + made[SYNCS], 0);
+    DILLUVAS_FILE_CALL(&parents, status, dilluvas_pin(&parents.cache));
+    IS(status, DILLUVAS_WRITE);
+    return failures;
+}
+
+/* Pages that aren't in memory are needed of the file. */
+static int reads_by_the_copy(void) {
+    dilluvas_found found;
+    uint8_t buffer[4096];
+    int refused = 0;
+    for (uint64_t page = 3; page < PAGES + 3; page++) {
+        DILLUVAS_FILE_CALL(&parents, status, dilluvas_get(&parents.cache, page, &found, buffer, sizeof buffer));
+        refused += status == DILLUVAS_READ;
+    }
+    IS(refused, PAGES);
+    return failures;
+}
+
+static void a_forked_process_leaves_the_file_alone(void) {
+    char value[200];
+    memset(value, 'v', sizeof value);
+    parents = opened();
+    allocates(&parents, 2, 1);
+    for (uint64_t page = 3; page < PAGES + 3; page++) {
+        allocates(&parents, page, 1);
+        sets(&parents, page, 1, value, sizeof value);
+    }
+    flushes(&parents);
+    dilluvas_file_close(&parents);
+    parents = opened();
+    sets(&parents, 2, 0, "v", 1);
+    is_leaf(&parents, 2, 1, 1);
+    size_t len;
+    uint8_t *content = bytes_of(path, &len);
+    IS(elsewhere(flushes_the_copy) + elsewhere(rewrites_the_copy) + elsewhere(reads_by_the_copy), 0);
+    IS(has_bytes(content, len), true);
+    IS(size_of(other), -1);
+    IS(elsewhere(uses_the_copy), 0);
+    IS(elsewhere(opens), DILLUVAS_HELD);
+    /* the parent goes on */
+    sets(&parents, 2, 1, "w", 1);
+    flushes(&parents);
+    IS(compact(&parents), DILLUVAS_OK);
+    is_leaf(&parents, 2, 0, 1);
+    IS(dilluvas_file_close(&parents), DILLUVAS_OK);
+    free(content);
+    IS(unlink(path), 0);
+}
+
 int main(int count, char **arguments) {
     if (count != 2 || !begin(arguments[1], "processes")) return 2;
     it_is_held_while_it_is_made();
+    a_forked_process_leaves_the_file_alone();
     if (failures == 0) printf("processes: passed\n");
     return failures != 0;
 }

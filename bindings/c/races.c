@@ -50,6 +50,7 @@ static dilluvas_status add_page(dilluvas_file *file, const char *value) {
 static dilluvas_status open_in_place(dilluvas_file *file) {
     struct stat mine, found;
     dilluvas_status status;
+    file->process = getpid();
     file->buffer = calloc(1, 65536);
     file->path = calloc(1, PATH_MAX);
     file->settings = settings;

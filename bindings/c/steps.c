@@ -81,6 +81,7 @@ int elsewhere(int (*call)(void)) {
     pid_t child = fork();
     if (child == 0) {
         answer = call();
+        fflush(stdout);
         if (write(ends[1], &answer, sizeof answer) == sizeof answer) kill(getpid(), SIGKILL);
         _exit(1);
     }

@@ -22,6 +22,7 @@ class _File(ctypes.Structure):
         ("buffer", c_void_p),
         ("path", c_void_p),
         ("settings", _FileSettings),
+        ("process", c_int),
     ]
 
 
