@@ -6,6 +6,7 @@
 #include <stdio.h>
 #include <stdlib.h>
 #include <sys/file.h>
+#include <sys/resource.h>
 #include <sys/stat.h>
 #include <unistd.h>
 
@@ -26,6 +27,12 @@ static bool is_own(const dilluvas_file *file) {
 }
 
 static bool write_all(int descriptor, const uint8_t *bytes, size_t len, uint64_t at) {
+    struct rlimit limit;
+    /* a write beyond it would raise a signal, which ends the process */
+    if (getrlimit(RLIMIT_FSIZE, &limit) == 0 && limit.rlim_cur != RLIM_INFINITY && at + len > limit.rlim_cur) {
+        errno = EFBIG;
+        return false;
+    }
     while (len > 0) {
         ssize_t written = pwrite(descriptor, bytes, len, (off_t)at);
         if (written < 0 && errno == EINTR) continue;

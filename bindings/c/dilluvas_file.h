@@ -10,7 +10,9 @@
  *
  * The file is the process's that opened it. A process that is forked has a copy of the cache, but file and lock are one for both, so there no
  * byte of the file is read or written: a call that would write answers WRITE, one that would read answers READ, dilluvas_file_compact answers
- * WRITE, and dilluvas_file_close leaves the file locked. It is held until each process that has it has closed it, or the one that opened it. */
+ * WRITE, and dilluvas_file_close leaves the file locked. It is held until each process that has it has closed it, or the one that opened it.
+ *
+ * A write beyond RLIMIT_FSIZE isn't made, so no signal is raised: the answer is WRITE. */
 #ifndef DILLUVAS_FILE_H
 #define DILLUVAS_FILE_H
 

@@ -1,10 +1,11 @@
-/* What a cache over a file owes to the processes of a system: it is held while it is made, and a process that was forked doesn't write to it
- * and leaves it locked. Prints the line of each check that fails: the status is 1 then. Linked with steps.c and failing.c. Usage: processes
- * FOLDER, in which it makes its files. */
+/* What a cache over a file owes to the processes of a system: it is held while it is made, it isn't written to by a process that was forked,
+ * which leaves it locked, and a limit on the size of files ends no process. Prints the line of each check that fails: the status is 1 then.
+ * Linked with steps.c and failing.c. Usage: processes FOLDER, in which it makes its files. */
 #include "steps.h"
 #include <signal.h>
 #include <stdio.h>
 #include <stdlib.h>
+#include <sys/resource.h>
 #include <unistd.h>
 
 static int opens(void) {
@@ -113,10 +114,70 @@ static void a_forked_process_leaves_the_file_alone(void) {
     IS(unlink(path), 0);
 }
 
+/* ---- The limit on the size of files. */
+
+static void set_limit(rlim_t bytes) {
+    struct rlimit limit;
+    IS(getrlimit(RLIMIT_FSIZE, &limit), 0);
+    limit.rlim_cur = bytes;
+    IS(setrlimit(RLIMIT_FSIZE, &limit), 0);
+}
+
+static int opens_with_little_room(void) {
+    dilluvas_file mine = DILLUVAS_FILE_CLOSED;
+    /* a new file has 53 bytes */
+    for (rlim_t bytes = 0; bytes < 53; bytes++) {
+        set_limit(bytes);
+        IS(dilluvas_file_open(&mine, path, &over_file), DILLUVAS_WRITE);
+        IS(size_of(path), -1);
+        IS(size_of(other), -1);
+    }
+    set_limit(53);
+    IS(dilluvas_file_open(&mine, path, &over_file), DILLUVAS_OK);
+    IS(size_of(path), 53);
+    return failures;
+}
+
+static int flushes_up_to_the_limit(void) {
+    char value[200];
+    uint64_t stamp = 0;
+    size_t written;
+    memset(value, 'v', sizeof value);
+    dilluvas_file mine = opened();
+    set_limit(2000);
+    do {
+        DILLUVAS_FILE_CALL(&mine, status,
+                           dilluvas_set(&mine.cache, 2, &stamp, TEXT("b"), (const uint8_t *)value, sizeof value));
+        if (status == DILLUVAS_OK) DILLUVAS_FILE_CALL(&mine, status, dilluvas_flush(&mine.cache, &written));
+        IS(size_of(path) <= 2000, true);
+    } while (status == DILLUVAS_OK);
+    IS(status, DILLUVAS_WRITE);
+    IS(stamp > 5, true);
+    dilluvas_file_close(&mine);
+    /* what was flushed is there, and may be rewritten */
+    mine = opened();
+    is_leaf(&mine, 2, 0, 1);
+    IS(compact(&mine), DILLUVAS_OK);
+    is_leaf(&mine, 2, 0, 1);
+    return failures;
+}
+
+static void a_limit_ends_no_process(void) {
+    IS(elsewhere(opens_with_little_room), 0);
+    dilluvas_file file = opened();
+    allocates(&file, 2, 1);
+    flushes(&file);
+    dilluvas_file_close(&file);
+    IS(elsewhere(flushes_up_to_the_limit), 0);
+    file = opened();
+    end(&file);
+}
+
 int main(int count, char **arguments) {
     if (count != 2 || !begin(arguments[1], "processes")) return 2;
     it_is_held_while_it_is_made();
     a_forked_process_leaves_the_file_alone();
+    a_limit_ends_no_process();
     if (failures == 0) printf("processes: passed\n");
     return failures != 0;
 }
