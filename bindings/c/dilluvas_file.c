@@ -174,7 +174,7 @@ static bool sync_name(const char *path) {
     char real[PATH_MAX];
     int folder = realpath(path, real) ? open_folder(real) : -1;
     /* a folder that may not be read is synced by nobody */
-    if (folder < 0) return true;
+    if (folder < 0) return errno == EACCES || errno == EPERM;
     bool done = sync_folder(folder);
     close(folder);
     return done;

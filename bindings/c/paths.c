@@ -6,7 +6,9 @@
 #include <fcntl.h>
 #include <stdio.h>
 #include <stdlib.h>
+#include <sys/resource.h>
 #include <sys/stat.h>
+#include <sys/wait.h>
 #include <unistd.h>
 
 static int failures;
@@ -21,9 +23,9 @@ static void is(int line, unsigned long long got, unsigned long long wanted) {
 
 /* ---- The system. */
 
-/* From this place up to that nothing can be read, and whether folders can't be synced. */
+/* From this place up to that nothing can be read, and why folders can't be synced, unless that is 0. */
 static off_t bad_from = -1, bad_to = INT64_MAX;
-static bool no_sync;
+static int no_sync;
 
 ssize_t __real_pread(int descriptor, void *bytes, size_t len, off_t at);
 int __real_fsync(int descriptor);
@@ -37,7 +39,7 @@ ssize_t __wrap_pread(int descriptor, void *bytes, size_t len, off_t at) {
 
 int __wrap_fsync(int descriptor) {
     if (!no_sync) return __real_fsync(descriptor);
-    errno = EIO;
+    errno = no_sync;
     return -1;
 }
 
@@ -144,11 +146,45 @@ static void zeros_are_closed(void) {
 
 /* Whoever made a file may have ended before its name was durable. */
 static void a_name_is_synced(void) {
-    no_sync = true;
+    no_sync = EIO;
     IS(opened("named"), DILLUVAS_WRITE);
     IS(opened("named"), DILLUVAS_WRITE);
-    no_sync = false;
+    /* a system that syncs no folder */
+    no_sync = EINVAL;
     IS(opened("named"), DILLUVAS_OK);
+    IS(opened("named too"), DILLUVAS_OK);
+    no_sync = 0;
+    IS(opened("named"), DILLUVAS_OK);
+    /* the folder can't be opened, since the file took the last descriptor */
+    struct rlimit limit;
+    IS(getrlimit(RLIMIT_NOFILE, &limit), 0);
+    rlim_t before = limit.rlim_cur;
+    int next = dup(STDOUT_FILENO);
+    close(next);
+    limit.rlim_cur = (rlim_t)next + 1;
+    IS(setrlimit(RLIMIT_NOFILE, &limit), 0);
+    IS(opened("named"), DILLUVAS_WRITE);
+    limit.rlim_cur = before;
+    IS(setrlimit(RLIMIT_NOFILE, &limit), 0);
+}
+
+/* Nobody syncs a folder that may not be read. */
+static void a_folder_without_rights_is_not_synced(void) {
+    int status = 1;
+    fflush(stdout);
+    IS(mkdir("unread", 0777), 0);
+    if (geteuid() == 0) IS(chown("unread", 65534, 65534), 0);
+    pid_t child = fork();
+    if (child == 0) {
+        if (geteuid() == 0 && setuid(65534) != 0) _exit(0);
+        IS(opened("unread/file"), DILLUVAS_OK);
+        IS(chmod("unread", 0333), 0);
+        IS(opened("unread/file"), DILLUVAS_OK);
+        IS(opened("unread/absent"), DILLUVAS_NO_ACCESS);
+        fflush(stdout);
+        _exit(failures);
+    }
+    IS(waitpid(child, &status, 0) == child && WIFEXITED(status) && WEXITSTATUS(status) == 0, true);
 }
 
 /* What stands near the bytes that are needed may be unreadable. */
@@ -219,6 +255,7 @@ int main(int count, char **arguments) {
     a_file_of_two_names_stays();
     zeros_are_closed();
     a_name_is_synced();
+    a_folder_without_rights_is_not_synced();
     a_bad_block_harms_its_pages_alone();
     a_bad_block_that_no_page_needs_is_passed_over();
     if (failures == 0) printf("paths: passed\n");
