@@ -40,7 +40,7 @@ for name in compact compact_failing processes; do
 done
 compile meanwhile "$here/c/steps.c" "$here/c/failing.c" "$out/dilluvas_file.c" "$failing,--wrap=open"
 "$out/meanwhile" "$files"
-compile paths "$out/dilluvas_file.c" -Wl,--wrap=pread,--wrap=fsync
+compile paths "$out/dilluvas_file.c" -Wl,--wrap=pread,--wrap=fdatasync,--wrap=fsync
 "$out/paths" "$files"
 rm -rf "$files/paths"
 compile killed "$out/dilluvas_file.c" -Wl,--wrap=pwrite,--wrap=fdatasync,--wrap=fsync,--wrap=rename

@@ -313,13 +313,24 @@ static dilluvas_status make_absent(dilluvas_file *file, const char *path, const 
     return make_new(file, path, NULL, settings);
 }
 
+/* Whether a file of no bytes is one that bytes can be written to. Those of the system's own (/proc) tell none too: they aren't synced, or have
+ * something to read. */
+static dilluvas_status check_empty(int descriptor) {
+    uint8_t byte;
+    size_t got;
+    if (!sync_data(descriptor)) return errno == EINVAL ? DILLUVAS_NO_FILE : DILLUVAS_WRITE;
+    if (!read_up_to(descriptor, &byte, 1, 0, &got)) return DILLUVAS_READ;
+    return got == 0 ? DILLUVAS_OK : DILLUVAS_NO_FILE;
+}
+
 /* Makes a file in place of an empty one, where a link leads too. While it is made, the empty one stays locked. */
 static dilluvas_status make_of_empty(dilluvas_file *file, const char *path, const struct stat *empty,
                                      const dilluvas_file_settings *settings) {
     char real[PATH_MAX];
     int descriptor = file->descriptor;
     file->descriptor = -1;
-    dilluvas_status status = realpath(path, real) ? make_new(file, real, empty, settings) : DILLUVAS_NO_ACCESS;
+    dilluvas_status status = check_empty(descriptor);
+    if (status == DILLUVAS_OK) status = realpath(path, real) ? make_new(file, real, empty, settings) : DILLUVAS_NO_ACCESS;
     let_go(descriptor);
     return status;
 }

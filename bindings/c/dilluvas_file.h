@@ -41,8 +41,8 @@ typedef struct dilluvas_file {
  * was; only where the file system has no hard links it may leave an empty one. It has the owner and the mode of the empty one, and a link to
  * that stays. None is made where a link leads to no file. It takes no other file's place: one that came meanwhile is opened.
  *
- * Answers ARGUMENTS; ALREADY_OPEN; NO_FILE, NO_ACCESS, HELD; and what dilluvas_open_file does but NEEDS. Nothing is open then, and what the
- * file holds is as it was. */
+ * Answers ARGUMENTS; ALREADY_OPEN; NO_FILE, NO_ACCESS, HELD; and what dilluvas_open_file does but NEEDS. NO_FILE is the answer for the
+ * system's own files too that say that they have no bytes, as those of /proc. Nothing is open then, and what the file holds is as it was. */
 dilluvas_status dilluvas_file_open(dilluvas_file *file, const char *path, const dilluvas_file_settings *settings);
 
 /* Does what the library wants of the file behind a call that answered `*status`. True: the call is to be made again. Otherwise `*status` is

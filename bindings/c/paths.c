@@ -1,5 +1,6 @@
 /* Opens caches by paths that lead to files, to other things and to nothing, and over what stands there already. Prints the line of each
- * check that fails: the status is 1 then. Linked with --wrap=pread and --wrap=fsync. Usage: paths FOLDER, in which it makes its files. */
+ * check that fails: the status is 1 then. Linked with --wrap=pread, --wrap=fdatasync and --wrap=fsync. Usage: paths FOLDER, in which it makes
+ * its files. */
 #define _DEFAULT_SOURCE
 #include "dilluvas_file.h"
 #include <errno.h>
@@ -23,17 +24,28 @@ static void is(int line, unsigned long long got, unsigned long long wanted) {
 
 /* ---- The system. */
 
-/* From this place up to that nothing can be read, and why folders can't be synced, unless that is 0. */
+/* From this place up to that nothing can be read, and why folders and files can't be synced, unless that is 0. */
 static off_t bad_from = -1, bad_to = INT64_MAX;
-static int no_sync;
+static int no_sync, no_file_sync;
+
+/* Whether a byte is read that no file told to have. */
+static bool has_untold;
 
 ssize_t __real_pread(int descriptor, void *bytes, size_t len, off_t at);
+int __real_fdatasync(int descriptor);
 int __real_fsync(int descriptor);
 
 ssize_t __wrap_pread(int descriptor, void *bytes, size_t len, off_t at) {
+    if (has_untold) return 1;
     if (bad_from < 0 || at + (off_t)len <= bad_from || bad_to <= at) return __real_pread(descriptor, bytes, len, at);
     if (at < bad_from) return __real_pread(descriptor, bytes, (size_t)(bad_from - at), at);
     errno = EIO;
+    return -1;
+}
+
+int __wrap_fdatasync(int descriptor) {
+    if (!no_file_sync) return __real_fdatasync(descriptor);
+    errno = no_file_sync;
     return -1;
 }
 
@@ -78,6 +90,28 @@ static void what_is_no_file_is_not_opened(void) {
     IS(size_of(".dilluvas-new"), -1);
     IS(symlink("loop", "loop"), 0);
     IS(opened("loop"), DILLUVAS_NO_ACCESS);
+}
+
+/* The system's own files say that they have no bytes: they aren't synced, or have some. */
+static void what_only_says_that_it_is_empty_is_no_file(void) {
+    static const char *const own[] = {"/proc/self/comm", "/proc/self/oom_score_adj"};
+    for (int i = 0; i < 2; i++) {
+        if (access(own[i], R_OK | W_OK) == 0) IS(opened(own[i]), DILLUVAS_NO_FILE);
+    }
+    put("untold", "", 0600);
+    no_file_sync = EINVAL;
+    IS(opened("untold"), DILLUVAS_NO_FILE);
+    no_file_sync = EIO;
+    IS(opened("untold"), DILLUVAS_WRITE);
+    no_file_sync = 0;
+    has_untold = true;
+    IS(opened("untold"), DILLUVAS_NO_FILE);
+    has_untold = false;
+    bad_from = 0;
+    IS(opened("untold"), DILLUVAS_READ);
+    bad_from = -1;
+    IS(size_of("untold"), 0);
+    IS(opened("untold"), DILLUVAS_OK);
 }
 
 static void links_stay(void) {
@@ -249,6 +283,7 @@ static void a_bad_block_that_no_page_needs_is_passed_over(void) {
 int main(int count, char **arguments) {
     if (count != 2 || chdir(arguments[1]) != 0 || mkdir("paths", 0755) != 0 || chdir("paths") != 0) return 2;
     what_is_no_file_is_not_opened();
+    what_only_says_that_it_is_empty_is_no_file();
     links_stay();
     an_empty_file_keeps_its_mode();
     no_other_file_is_written();
