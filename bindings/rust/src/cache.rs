@@ -69,7 +69,8 @@ impl Cache {
 
     /// Opens a cache over a file, which is locked until the cache is dropped. One that is absent or empty is made: with `.dilluvas-new`
     /// behind its name until it is whole and durable, so a crash leaves it whole or as it was. It has the owner and the mode of the empty one,
-    /// and a link to that stays. None is made where a link leads to no file.
+    /// and a link to that stays. None is made where a link leads to no file. What another process puts at the path meanwhile is never written
+    /// over: it is opened, or held. Where the file system has no hard links an absent file is empty for a moment, and a crash may leave it so.
     ///
     /// ```
     /// use dilluvas::{Cache, Error, FileSettings};
@@ -95,8 +96,8 @@ impl Cache {
     /// # Errors
     ///
     /// [`NoFile`](Error::NoFile), [`NoAccess`](Error::NoAccess), [`Held`](Error::Held), and those of [`on_device`](Cache::on_device). What
-    /// the file holds is as it was then. [`Write`](Error::Write) comes too where the file was made and its folder could not be synced: a
-    /// crash may take it away again.
+    /// the file holds is as it was then. [`Write`](Error::Write) comes too where the folder could not be synced, whether the file was made or
+    /// found: a crash may take it away again.
     pub fn open(path: impl AsRef<Path>, settings: &FileSettings) -> Result<Cache, Error> {
         let (mut cache, place) =
             file::open_or_make(path.as_ref(), |file| Cache::on_device(file, settings))?;

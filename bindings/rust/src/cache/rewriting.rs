@@ -10,11 +10,12 @@ use crate::sys;
 impl Cache {
     /// Rewrites the cache into a new log, which has each page as one message, and goes on over that: a log only grows else.
     ///
-    /// Over a file it is a new one, which takes the place of the file, with its owner and its mode, and is locked before it does: at no
-    /// moment the path leads to a file that another process may lock. Until then the new file has `.dilluvas-new` behind the name of the
-    /// file, as one that is being made has. One that a process left there that was killed is made anew. Where this process is killed, or the
-    /// power fails, the path leads to the old file or to the new one, with the same pages; all that was pending is durable in the new one.
-    /// Other names of the file (hard links) stay with the old one. A link to the file leads to the new one.
+    /// Over a file it is a new one, which takes the place of the file, with its owner and its mode, and is locked before it does: at no moment
+    /// the path leads to a file that another process may lock. Until then the new file has `.dilluvas-new` behind the name of the file, as one
+    /// that is being made has. What a process left there that was killed is taken away, and never written to: it may be a second name of the
+    /// file. Where this process is killed, or the power fails, the path leads to the old file or to the new one, with the same pages; all that
+    /// was pending is durable in the new one. Other names of the file (hard links) stay with the old one. A link to the file leads to the new
+    /// one.
     ///
     /// The cache is one that was opened over the new log: each page has stamp 0. A [`Token`](crate::Token) that was given before is let go,
     /// since a page may have it again with other pairs. No id comes twice.
@@ -44,11 +45,11 @@ impl Cache {
     ///
     /// [`BatchOpen`](Error::BatchOpen); [`OutOfMemory`](Error::OutOfMemory), [`Read`](Error::Read); [`Corruption`](Error::Corruption) for a
     /// page that can't be read, of which none is passed over; [`LogFull`](Error::LogFull); [`NoFile`](Error::NoFile) and
-    /// [`NoAccess`](Error::NoAccess) where the new file can't be made, or the path doesn't lead to the file by now;
-    /// [`Held`](Error::Held) where a process makes one by that name; [`NoFile`](Error::NoFile) for a cache on another device, which
-    /// [`compact_to`](Cache::compact_to) rewrites. The file and the cache are what they were then. So they are at [`Write`](Error::Write)
-    /// too where the new file couldn't be written or synced. Where the folder couldn't be synced every later call answers that: the new file
-    /// is there, but a crash may bring back the old one.
+    /// [`NoAccess`](Error::NoAccess) where the new file can't be made, or the path doesn't lead to the file by now; [`Held`](Error::Held) where
+    /// a process makes one by that name; [`NoFile`](Error::NoFile) for a cache on another device, which [`compact_to`](Cache::compact_to)
+    /// rewrites. The file and the cache are what they were then. So they are at [`Write`](Error::Write) too where the new file couldn't be
+    /// written or synced. Where the folder couldn't be synced every later
+    /// call answers that: the new file is there, but a crash may bring back the old one.
     pub fn compact(&mut self) -> Result<(), Error> {
         match &self.place {
             Place::Memory(settings) => {

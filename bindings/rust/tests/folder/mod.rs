@@ -9,7 +9,20 @@ pub struct Folder(PathBuf);
 #[allow(dead_code)] // each test that includes it uses a part
 impl Folder {
     pub fn new(name: &str) -> Folder {
-        let path = std::env::temp_dir().join(format!("dilluvas-{}-{name}", std::process::id()));
+        Folder::within(&std::env::temp_dir(), name)
+    }
+
+    /// One in memory, where the system has a place for that.
+    pub fn in_memory(name: &str) -> Folder {
+        let place = Path::new("/dev/shm");
+        match place.is_dir() {
+            true => Folder::within(place, name),
+            false => Folder::new(name),
+        }
+    }
+
+    fn within(place: &Path, name: &str) -> Folder {
+        let path = place.join(format!("dilluvas-{}-{name}", std::process::id()));
         fs::create_dir(&path).unwrap();
         Folder(path)
     }

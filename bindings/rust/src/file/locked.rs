@@ -1,0 +1,110 @@
+//! A file that is locked.
+
+use super::MOST_TRIES;
+use crate::device::Device;
+use crate::error::Error;
+use std::fs::{self, File, Metadata, OpenOptions, TryLockError};
+use std::io::{self, ErrorKind};
+use std::os::unix::fs::{FileExt, MetadataExt};
+use std::path::Path;
+use std::sync::Arc;
+
+/// A file that is locked, until the last of its clones is dropped.
+#[derive(Clone)]
+pub(crate) struct Locked(pub(super) Arc<Open>);
+
+pub(super) struct Open {
+    pub(super) file: File,
+}
+
+impl Drop for Open {
+    // It is unlocked, and not only closed: a process that is just being started has it open too.
+    fn drop(&mut self) {
+        // closing it does so too
+        let _ = self.file.unlock();
+    }
+}
+
+impl Locked {
+    /// Whether a name leads to it, and not by a link.
+    pub(super) fn is_at(&self, name: &Path) -> bool {
+        let found = self.0.file.metadata();
+        fs::symlink_metadata(name)
+            .is_ok_and(|present| found.is_ok_and(|found| are_one_file(&present, &found)))
+    }
+
+    /// What the system says of it now.
+    pub(super) fn metadata(&self) -> Result<Metadata, Error> {
+        self.0.file.metadata().map_err(|_| Error::Read)
+    }
+}
+
+impl Device for Locked {
+    fn size(&mut self) -> io::Result<u64> {
+        Ok(self.0.file.metadata()?.len())
+    }
+
+    fn read_at(&mut self, at: u64, into: &mut [u8]) -> io::Result<()> {
+        self.0.file.read_exact_at(into, at)
+    }
+
+    fn write_at(&mut self, at: u64, bytes: &[u8]) -> io::Result<()> {
+        self.0.file.write_all_at(bytes, at)
+    }
+
+    fn sync(&mut self) -> io::Result<()> {
+        self.0.file.sync_data()
+    }
+}
+
+/// Opens the file of a path and locks it, or answers none where it is absent.
+pub(super) fn open_locked(path: &Path) -> Result<Option<(Locked, Metadata)>, Error> {
+    let mut options = OpenOptions::new();
+    options.read(true).write(true);
+    for _ in 0..MOST_TRIES {
+        // what is no file isn't opened: that may wait, or do something to it
+        if fs::metadata(path).is_ok_and(|found| !found.is_file()) {
+            return Err(Error::NoFile);
+        }
+        let file = match options.open(path) {
+            Ok(file) => file,
+            Err(error) if error.kind() == ErrorKind::NotFound => return Ok(None),
+            Err(error) => return Err(refusal(&error)),
+        };
+        let (file, found) = lock(file)?;
+        if fs::metadata(path).is_ok_and(|present| are_one_file(&present, &found)) {
+            return Ok(Some((file, found)));
+        }
+        // another file took its place before it was locked
+    }
+    Err(Error::NoAccess)
+}
+
+/// Why a file couldn't be opened.
+pub(super) fn refusal(error: &io::Error) -> Error {
+    match error.kind() {
+        ErrorKind::IsADirectory => Error::NoFile,
+        _ => Error::NoAccess,
+    }
+}
+
+/// Locks a file, and answers what the system says of it behind the lock.
+pub(super) fn lock(file: File) -> Result<(Locked, Metadata), Error> {
+    let found = file.metadata().map_err(|_| Error::Read)?;
+    if !found.is_file() {
+        return Err(Error::NoFile);
+    }
+    match file.try_lock() {
+        Ok(()) => {}
+        Err(TryLockError::WouldBlock) => return Err(Error::Held),
+        Err(TryLockError::Error(_)) => return Err(Error::NoAccess),
+    }
+    let file = Locked(Arc::new(Open { file }));
+    // it may have grown before
+    let found = file.metadata()?;
+    Ok((file, found))
+}
+
+fn are_one_file(one: &Metadata, other: &Metadata) -> bool {
+    (one.dev(), one.ino()) == (other.dev(), other.ino())
+}

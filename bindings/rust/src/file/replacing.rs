@@ -1,0 +1,43 @@
+//! Making a file in the place of one that is open.
+
+use super::Place;
+use super::folder::Folder;
+use super::locked::Locked;
+use super::new::New;
+use crate::error::Error;
+
+/// A file that took the place of another, whose name isn't durable until its folder is synced.
+pub(crate) struct Replaced<T> {
+    pub(crate) opened: T,
+    pub(crate) place: Place,
+    pub(crate) folder: Folder,
+}
+
+/// Makes a file in the place of one: `open` is given it with no bytes, and it has its name once that has succeeded. Both are locked
+/// meanwhile.
+pub(crate) fn replace<T>(
+    place: &Place,
+    open: impl FnOnce(Locked) -> Result<T, Error>,
+) -> Result<Replaced<T>, Error> {
+    let path = place.path.as_deref().ok_or(Error::NoAccess)?;
+    let folder = Folder::of(path)?;
+    if !place.file.is_at(path) {
+        return Err(Error::NoAccess);
+    }
+    let found = place.file.metadata()?;
+    let new = New::beside(path, Some(&place.file))?;
+    new.give_owner_and_mode(&found)?;
+    let opened = open(new.file())?;
+    if !new.put_over(path, &place.file)? {
+        return Err(Error::NoAccess);
+    }
+    let place = Place {
+        file: new.file(),
+        path: place.path.clone(),
+    };
+    Ok(Replaced {
+        opened,
+        place,
+        folder,
+    })
+}
