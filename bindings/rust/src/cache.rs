@@ -72,6 +72,10 @@ impl Cache {
     /// and a link to that stays. None is made where a link leads to no file. What another process puts at the path meanwhile is never written
     /// over: it is opened, or held. Where the file system has no hard links an absent file is empty for a moment, and a crash may leave it so.
     ///
+    /// A child that was forked has the file of its parent too. It is the parent's: in the child no call writes, syncs or reads it, which is
+    /// answered by [`Write`](Error::Write) and [`Read`](Error::Read), and it stays locked where the child drops the cache. So a program that
+    /// becomes a daemon opens it behind that.
+    ///
     /// ```
     /// use dilluvas::{Cache, Error, FileSettings};
     ///

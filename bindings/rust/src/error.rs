@@ -35,10 +35,11 @@ pub enum Error {
     NotOverFile,
     /// An allocation failed. The call may be made again.
     OutOfMemory,
-    /// A read failed. The call may be made again.
+    /// A read failed, or a child that was forked would read its parent's file. The call may be made again.
     Read,
     /// A write or a sync failed, in this call or in an earlier one. Every later call answers so, until the device is opened again: then all
-    /// that was flushed is there, and of what came behind it a part may be.
+    /// that was flushed is there, and of what came behind it a part may be. So it is where a child that was forked
+    /// would write or sync its parent's file.
     Write,
     /// The messages of the page, or the bytes of the file, aren't what a cache wrote.
     Corruption,

@@ -48,7 +48,7 @@ impl Cache {
     /// [`NoAccess`](Error::NoAccess) where the new file can't be made, or the path doesn't lead to the file by now; [`Held`](Error::Held) where
     /// a process makes one by that name; [`NoFile`](Error::NoFile) for a cache on another device, which [`compact_to`](Cache::compact_to)
     /// rewrites. The file and the cache are what they were then. So they are at [`Write`](Error::Write) too where the new file couldn't be
-    /// written or synced. Where the folder couldn't be synced every later
+    /// written or synced, and in a child that was forked, which replaces no file of its parent. Where the folder couldn't be synced every later
     /// call answers that: the new file is there, but a crash may bring back the old one.
     pub fn compact(&mut self) -> Result<(), Error> {
         match &self.place {

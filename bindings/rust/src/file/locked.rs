@@ -7,25 +7,46 @@ use std::fs::{self, File, Metadata, OpenOptions, TryLockError};
 use std::io::{self, ErrorKind};
 use std::os::unix::fs::{FileExt, MetadataExt};
 use std::path::Path;
+use std::process;
 use std::sync::Arc;
 
 /// A file that is locked, until the last of its clones is dropped.
+///
+/// A child that was forked has it too, and the lock is of both. It is the parent's: the child reads, writes and syncs nothing, and unlocks
+/// nothing.
 #[derive(Clone)]
-pub(crate) struct Locked(pub(super) Arc<Open>);
+pub(crate) struct Locked(Arc<Open>);
 
-pub(super) struct Open {
-    pub(super) file: File,
+struct Open {
+    file: File,
+    process: u32,
 }
 
 impl Drop for Open {
     // It is unlocked, and not only closed: a process that is just being started has it open too.
     fn drop(&mut self) {
-        // closing it does so too
-        let _ = self.file.unlock();
+        if self.process == process::id() {
+            // closing it does so too
+            let _ = self.file.unlock();
+        }
     }
 }
 
 impl Locked {
+    /// Whether this is the process that locked it, and none that was forked since.
+    pub(super) fn is_ours(&self) -> bool {
+        self.0.process == process::id()
+    }
+
+    /// The file, for the process that locked it.
+    pub(super) fn ours(&self) -> io::Result<&File> {
+        if self.is_ours() {
+            Ok(&self.0.file)
+        } else {
+            Err(io::Error::other("the file is that of the parent process"))
+        }
+    }
+
     /// Whether a name leads to it, and not by a link.
     pub(super) fn is_at(&self, name: &Path) -> bool {
         let found = self.0.file.metadata();
@@ -41,19 +62,19 @@ impl Locked {
 
 impl Device for Locked {
     fn size(&mut self) -> io::Result<u64> {
-        Ok(self.0.file.metadata()?.len())
+        Ok(self.ours()?.metadata()?.len())
     }
 
     fn read_at(&mut self, at: u64, into: &mut [u8]) -> io::Result<()> {
-        self.0.file.read_exact_at(into, at)
+        self.ours()?.read_exact_at(into, at)
     }
 
     fn write_at(&mut self, at: u64, bytes: &[u8]) -> io::Result<()> {
-        self.0.file.write_all_at(bytes, at)
+        self.ours()?.write_all_at(bytes, at)
     }
 
     fn sync(&mut self) -> io::Result<()> {
-        self.0.file.sync_data()
+        self.ours()?.sync_data()
     }
 }
 
@@ -99,7 +120,8 @@ pub(super) fn lock(file: File) -> Result<(Locked, Metadata), Error> {
         Err(TryLockError::WouldBlock) => return Err(Error::Held),
         Err(TryLockError::Error(_)) => return Err(Error::NoAccess),
     }
-    let file = Locked(Arc::new(Open { file }));
+    let process = process::id();
+    let file = Locked(Arc::new(Open { file, process }));
     // it may have grown before
     let found = file.metadata()?;
     Ok((file, found))

@@ -63,7 +63,7 @@ impl New {
     }
 
     fn try_to_give(&self, old: &Metadata) -> io::Result<()> {
-        let file = &self.file.0.file;
+        let file = self.file.ours()?;
         let found = file.metadata()?;
         if (found.uid(), found.gid()) != (old.uid(), old.gid()) {
             match fchown(file, Some(old.uid()), Some(old.gid())) {

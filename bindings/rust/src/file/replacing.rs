@@ -14,11 +14,14 @@ pub(crate) struct Replaced<T> {
 }
 
 /// Makes a file in the place of one: `open` is given it with no bytes, and it has its name once that has succeeded. Both are locked
-/// meanwhile.
+/// meanwhile. A child that was forked replaces no file of its parent.
 pub(crate) fn replace<T>(
     place: &Place,
     open: impl FnOnce(Locked) -> Result<T, Error>,
 ) -> Result<Replaced<T>, Error> {
+    if !place.file.is_ours() {
+        return Err(Error::Write);
+    }
     let path = place.path.as_deref().ok_or(Error::NoAccess)?;
     let folder = Folder::of(path)?;
     if !place.file.is_at(path) {
