@@ -38,8 +38,8 @@ pub enum Error {
     /// A read failed, or a child that was forked would read its parent's file. The call may be made again.
     Read,
     /// A write or a sync failed, in this call or in an earlier one. Every later call answers so, until the device is opened again: then all
-    /// that was flushed is there, and of what came behind it a part may be. So it is where a child that was forked
-    /// would write or sync its parent's file.
+    /// that was flushed is there, and of what came behind it a part may be. A file fails that would get longer than the process may make one
+    /// (`RLIMIT_FSIZE`), before a signal tells it; and one that a child that was forked would write or sync.
     Write,
     /// The messages of the page, or the bytes of the file, aren't what a cache wrote.
     Corruption,

@@ -1,9 +1,11 @@
 //! The functions of the library, as `bindings/c/dilluvas.h` declares them, and a safe one over each, which answers the status. Nothing
-//! compares the two but the programs that call both. No other module has `unsafe`.
+//! compares the two but the programs that call both. Behind them is one of the system's. No other module has `unsafe`.
 
 #![allow(unsafe_code)]
 
 use crate::settings::{FileSettings, Settings};
+#[cfg(all(target_os = "linux", target_pointer_width = "64"))]
+use std::ffi::c_int;
 use std::ffi::c_void;
 use std::ptr;
 
@@ -239,4 +241,24 @@ impl Drop for Handle {
 /// Writes the text of a status, and how many bytes it has.
 pub fn text(status: u32, buffer: &mut [u8], needed: &mut usize) -> u32 {
     unsafe { dilluvas_raw_text(status, buffer.as_mut_ptr(), buffer.len(), needed) }
+}
+
+/// How many bytes a file may have that this process writes (RLIMIT_FSIZE): a write past that raises a signal, which ends the process.
+#[cfg(all(target_os = "linux", target_pointer_width = "64"))]
+pub fn longest_file() -> u64 {
+    unsafe extern "C" {
+        fn getrlimit(resource: c_int, soft_and_hard: *mut [u64; 2]) -> c_int;
+    }
+    const FILE_SIZE: c_int = 1;
+    // they stay so where the system doesn't tell them
+    let mut soft_and_hard = [u64::MAX; 2];
+    // SAFETY: it writes to the two numbers alone.
+    unsafe { getrlimit(FILE_SIZE, &mut soft_and_hard) };
+    soft_and_hard[0]
+}
+
+/// How many bytes a file may have that this process writes: elsewhere that isn't asked.
+#[cfg(not(all(target_os = "linux", target_pointer_width = "64")))]
+pub fn longest_file() -> u64 {
+    u64::MAX
 }

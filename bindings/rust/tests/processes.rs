@@ -1,4 +1,4 @@
-//! A child that was forked has the file of its parent too.
+//! What is of a process beside its memory: a child that was forked has the parent's file too, and a limit may say how long a file gets.
 #![cfg(all(target_os = "linux", target_env = "gnu"))]
 
 mod folder;
@@ -89,4 +89,73 @@ fn a_forked_child_does_nothing_to_the_file() {
     cache.flush().unwrap();
     drop(cache);
     assert!(open(&folder.file()).unwrap().get(last).unwrap().is_some());
+}
+
+#[repr(C)]
+struct Limit {
+    soft: u64,
+    hard: u64,
+}
+
+unsafe extern "C" {
+    fn setrlimit(resource: i32, limit: *const Limit) -> i32;
+}
+
+fn let_files_have(bytes: u64) {
+    let limit = Limit {
+        soft: bytes,
+        hard: u64::MAX,
+    };
+    // SAFETY: it is the structure that the system reads.
+    assert_eq!(unsafe { setrlimit(1, &limit) }, 0);
+}
+
+// The bytes of a file that was just made.
+const LEAST: u64 = 53;
+
+#[test]
+fn a_file_that_gets_too_long_ends_no_process() {
+    let folder = Folder::new("limit");
+    let pages = forked(|| {
+        let_files_have(4000);
+        let mut cache = open(&folder.file()).unwrap();
+        for pages in 0.. {
+            let token = cache.allocate([("key", "value")]).unwrap();
+            assert_eq!(token.page, 2 + pages as u64);
+            if let Err(error) = cache.flush() {
+                assert_eq!(error, Error::Write);
+                assert_eq!(cache.compact(), Err(Error::Write));
+                return pages;
+            }
+        }
+        unreachable!()
+    });
+    assert!(pages > 50, "{pages} pages");
+    let length = fs::metadata(folder.file()).unwrap().len();
+    assert!((3900..4000).contains(&length), "{length} bytes");
+    let mut cache = open(&folder.file()).unwrap();
+    for page in 2..2 + pages as u64 {
+        assert!(cache.get(page).unwrap().is_some());
+    }
+    assert_eq!(fs::read_dir(folder.path()).unwrap().count(), 1);
+}
+
+#[test]
+fn the_limit_is_the_last_byte_that_a_file_may_have() {
+    let folder = Folder::new("limit-last");
+    let made = |bytes: u64| {
+        forked(|| {
+            let_files_have(bytes);
+            match open(&folder.file()) {
+                Ok(_) => 0,
+                Err(error) => error.status() as i32,
+            }
+        })
+    };
+    for bytes in 0..LEAST {
+        assert_eq!(made(bytes), Error::Write.status() as i32, "{bytes} bytes");
+        assert_eq!(fs::read_dir(folder.path()).unwrap().count(), 0);
+    }
+    assert_eq!(made(LEAST), 0);
+    assert_eq!(fs::metadata(folder.file()).unwrap().len(), LEAST);
 }

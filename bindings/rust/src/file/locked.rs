@@ -3,6 +3,7 @@
 use super::MOST_TRIES;
 use crate::device::Device;
 use crate::error::Error;
+use crate::sys;
 use std::fs::{self, File, Metadata, OpenOptions, TryLockError};
 use std::io::{self, ErrorKind};
 use std::os::unix::fs::{FileExt, MetadataExt};
@@ -70,7 +71,12 @@ impl Device for Locked {
     }
 
     fn write_at(&mut self, at: u64, bytes: &[u8]) -> io::Result<()> {
-        self.ours()?.write_all_at(bytes, at)
+        let file = self.ours()?;
+        // the system ends a process that writes a file longer than it may
+        if at.saturating_add(bytes.len() as u64) > sys::longest_file() {
+            return Err(ErrorKind::FileTooLarge.into());
+        }
+        file.write_all_at(bytes, at)
     }
 
     fn sync(&mut self) -> io::Result<()> {
