@@ -18,6 +18,7 @@ const EPERM: i32 = 1;
 const EIO: i32 = 5;
 const EACCES: i32 = 13;
 const EINVAL: i32 = 22;
+const EMFILE: i32 = 24;
 const EMLINK: i32 = 31;
 const ENOSYS: i32 = 38;
 const EOPNOTSUPP: i32 = 95;
@@ -288,5 +289,6 @@ fn a_name_that_may_not_be_durable_is_told() {
         };
         hooked(hook, || opened(&path))
     };
+    assert_eq!(folder_fails(EMFILE), Err(Error::Write));
     assert_eq!(folder_fails(EACCES), Ok(()));
 }

@@ -37,6 +37,7 @@ pub(super) fn sync_name(path: &Path) -> Result<(), Error> {
     match fs::canonicalize(path).and_then(|path| File::open(name_of(&path))) {
         Ok(folder) => Folder(folder).sync(),
         // a folder that may not be read is synced by nobody
-        Err(_) => Ok(()),
+        Err(error) if error.kind() == ErrorKind::PermissionDenied => Ok(()),
+        Err(_) => Err(Error::Write),
     }
 }
