@@ -43,7 +43,8 @@ pub enum Error {
     Write,
     /// The messages of the page, or the bytes of the file, aren't what a cache wrote.
     Corruption,
-    /// It is a folder, or another thing that is no file.
+    /// It is a folder, or another thing that is no file: so is one of the system's own, as those of `/proc`, which says that it has no bytes
+    /// and doesn't keep any.
     NoFile,
     /// The file may not be read and written, or can't be made.
     NoAccess,

@@ -292,3 +292,33 @@ fn a_name_that_may_not_be_durable_is_told() {
     assert_eq!(folder_fails(EMFILE), Err(Error::Write));
     assert_eq!(folder_fails(EACCES), Ok(()));
 }
+
+#[test]
+fn a_file_of_the_system_is_no_file() {
+    let is_synced = |call| match call {
+        "fdatasync" => Call::IsPassed,
+        _ => Call::IsMade,
+    };
+    for path in ["/proc/self/oom_score_adj", "/proc/self/comm"] {
+        let before = fs::read(path).unwrap();
+        let path = Path::new(path);
+        assert_eq!(opened(path), Err(Error::NoFile));
+        assert_eq!(hooked(is_synced, || opened(path)), Err(Error::NoFile));
+        assert_eq!(fs::read(path).unwrap(), before);
+    }
+
+    // an empty file of another kind, which can't be looked at
+    let folder = Folder::new("system");
+    let path = folder.file();
+    fs::write(&path, b"").unwrap();
+    let failed = |call, error| {
+        let hook = at_first(call, Call::Fails(error), || ());
+        hooked(hook, || opened(&path))
+    };
+    assert_eq!(failed("fdatasync", EINVAL), Err(Error::NoFile));
+    assert_eq!(failed("fdatasync", EIO), Err(Error::Write));
+    assert_eq!(failed("pread64", EIO), Err(Error::Read));
+    assert_eq!(fs::metadata(&path).unwrap().len(), 0);
+    assert_eq!(files_in(&folder), 1);
+    assert_eq!(opened(&path), Ok(()));
+}

@@ -59,6 +59,19 @@ impl Locked {
     pub(super) fn metadata(&self) -> Result<Metadata, Error> {
         self.0.file.metadata().map_err(|_| Error::Read)
     }
+
+    /// Refuses a file that has no bytes as the system says, and is the system's own, as those of `/proc` are: it isn't synced, or has some.
+    pub(super) fn check_empty(&self) -> Result<(), Error> {
+        match self.0.file.sync_data() {
+            Err(error) if error.kind() == ErrorKind::InvalidInput => return Err(Error::NoFile),
+            synced => synced.map_err(|_| Error::Write)?,
+        }
+        match self.0.file.read_at(&mut [0], 0) {
+            Ok(0) => Ok(()),
+            Ok(_) => Err(Error::NoFile),
+            Err(_) => Err(Error::Read),
+        }
+    }
 }
 
 impl Device for Locked {

@@ -41,6 +41,7 @@ pub(super) fn make_of_empty<T>(
     found: &Metadata,
     open: impl FnOnce(Locked) -> Result<T, Error>,
 ) -> Result<Option<T>, Error> {
+    empty.check_empty()?;
     let path = fs::canonicalize(path).map_err(|_| Error::NoAccess)?;
     if !empty.is_at(&path) {
         return Ok(None);
