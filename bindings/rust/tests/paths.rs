@@ -154,6 +154,32 @@ fn a_file_that_a_killed_process_left_is_made_anew() {
 }
 
 #[test]
+fn what_has_the_other_name_and_is_no_file_is_told() {
+    let folder = Folder::new("no-other-file");
+    let path = folder.file();
+    let rewritten = folder.path().join("rewritten");
+    let mut cache = open(&rewritten).unwrap();
+    let mut told = |error| {
+        assert_eq!(opened(&path), Err(error));
+        assert_eq!(cache.compact(), Err(error));
+    };
+    let others = [
+        beside(&path),
+        rewritten.with_file_name("rewritten.dilluvas-new"),
+    ];
+    for other in &others {
+        fs::create_dir(other).unwrap();
+    }
+    told(Error::NoFile);
+    for other in &others {
+        fs::remove_dir(other).unwrap();
+        symlink(&rewritten, other).unwrap();
+    }
+    told(Error::NoAccess);
+    assert_eq!(files_in(&folder), 3);
+}
+
+#[test]
 fn the_other_name_is_let_go_where_it_is_anothers() {
     let folder = Folder::new("other-name");
     let path = folder.file();

@@ -29,7 +29,8 @@ impl New {
                 take_away(&name)?;
             }
             let is_there = match fs::symlink_metadata(&name) {
-                Ok(found) if !found.is_file() => return Err(Error::NoAccess),
+                Ok(found) if found.is_symlink() => return Err(Error::NoAccess),
+                Ok(found) if !found.is_file() => return Err(Error::NoFile),
                 found => found.is_ok(),
             };
             let file = match options.create_new(!is_there).open(&name) {
