@@ -66,7 +66,9 @@ if command -v cargo >/dev/null; then
 fi
 if command -v python3 >/dev/null; then
     export PYTHONDONTWRITEBYTECODE=1
-    DILLUVAS_SO=$out/libdilluvas.so python3 "$here/python/calls.py"
+    for name in calls paths races; do
+        DILLUVAS_SO=$out/libdilluvas.so python3 "$here/python/$name.py"
+    done
     # the loop in Python and then that in C, with failing devices and refused memory
     DILLUVAS_SO=$out/libdilluvas.so python3 "$here/python/model.py"
     "${CC:-cc}" -std=c11 -Wall -Wextra -Wpedantic -Werror -O2 -fPIC -shared -o "$out/libhooked.so" "$here/c/hooks.c" -I"$out" \

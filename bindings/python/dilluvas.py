@@ -5,8 +5,8 @@
         stamp = cache.set(page, stamp, b"key", b"other")
         assert cache.get(page).pairs == [(b"key", b"other")]
 
-dilluvas_file has one over a file. A cache is used by one thread at a time. The library is libdilluvas.so of the folder that
-bindings/build.sh fills, or the file that the variable DILLUVAS_SO names; it is loaded as the first call is made.
+dilluvas_file has one over a file. Threads may share a cache: a call waits until no other is under way. The library is libdilluvas.so of
+the folder that bindings/build.sh fills, or the file that the variable DILLUVAS_SO names; it is loaded as the first call is made.
 """
 
 import ctypes
@@ -14,6 +14,8 @@ import functools
 import operator
 import os
 import struct
+import threading
+import weakref
 from ctypes import POINTER, byref, c_bool, c_char_p, c_size_t, c_uint32, c_uint64, c_void_p
 from typing import NamedTuple
 
@@ -185,13 +187,21 @@ def _decoded(data):
     return pairs
 
 
-class Cache:
-    """An open cache over a new log in memory. It is closed by `close`, or where a `with` ends, and nothing is flushed then."""
+class _Owner:
+    """What owns a handle, in which one call at a time is under way."""
 
-    def __init__(self, capacity=1 << 20, interval=10, segment_size=4096, blob_limit=512, clean_every=16):
+    # as long as an object isn't made
+    _handle = None
+
+    # Whether every call is refused, since it isn't known what the handle or its file has.
+    _is_lost = False
+
+    def __new__(cls, *_, **__):
+        self = super().__new__(cls)
+        self._lock = threading.RLock()
         self._handle = _Handle()
-        self._settings = _Settings(*map(_number, (capacity, interval, segment_size, blob_limit, clean_every)))
-        self._do("open_memory", byref(self._settings))
+        _OWNERS.add(self)
+        return self
 
     def __enter__(self):
         return self
@@ -200,13 +210,65 @@ class Cache:
         self.close()
 
     def __del__(self):
-        self.close()
+        if self._handle is not None:
+            self.close()
+
+    def __reduce_ex__(self, _):
+        raise TypeError("a cache can't be copied or pickled: a handle has one owner")
+
+    # Does something once no other thread is in a call. What a signal handler or a finalizer does within a call of its own thread is refused:
+    # the order of what that call writes would be lost.
+    def _in_turn(self, call, *arguments):
+        if self._lock._is_owned():
+            raise RuntimeError("a call of this cache was interrupted by this one, and isn't done")
+        # on one line, so that whoever traces lines can't raise between the call and the unlocking
+        with self._lock: return call(*arguments)  # fmt: skip
+
+    # In a child that was forked: a thread that isn't there holds the lock for ever, and what its call began with the handle stays half done.
+    def _free_lock(self):
+        if self._lock.acquire(blocking=False):
+            self._lock.release()
+        else:
+            self._lock, self._handle, self._is_lost = threading.RLock(), _Handle(), True
 
     def _ask(self, name, *arguments):
-        return _call(name, byref(self._handle), *arguments)
+        return self._in_turn(self._answer, name, *arguments)
+
+    def _answer(self, name, *arguments):
+        return WRITE if self._is_lost else _call(name, byref(self._handle), *arguments)
 
     def _do(self, name, *arguments):
         _check(self._ask(name, *arguments))
+
+    def close(self):
+        """Closes the cache. Closing it again does nothing."""
+        self._in_turn(self._close)
+
+    def _close(self):
+        # for one that was never opened the library may not be there
+        if self._handle.is_open:
+            _call("close", byref(self._handle))
+        self._is_lost = False
+
+
+_OWNERS = weakref.WeakSet()
+
+
+def _free_locks():
+    for owner in _OWNERS:
+        owner._free_lock()
+
+
+os.register_at_fork(after_in_child=_free_locks)
+
+
+class Cache(_Owner):
+    """An open cache over a new log in memory. It is closed by `close`, or where a `with` ends, and nothing is flushed then."""
+
+    def __init__(self, capacity=1 << 20, interval=10, segment_size=4096, blob_limit=512, clean_every=16):
+        settings = _Settings(*map(_number, (capacity, interval, segment_size, blob_limit, clean_every)))
+        self._do("open_memory", byref(settings))
+        self._settings = settings
 
     def _swap(self, name, page, stamp, *arguments):
         now = c_uint64(_number(stamp))
@@ -215,10 +277,6 @@ class Cache:
             raise Stale(now.value)
         _check(status)
         return now.value
-
-    def close(self):
-        """Closes the cache. Closing it again does nothing."""
-        self._ask("close")
 
     def allocate(self, pairs=()):
         """Puts a leaf of these pairs, whose keys ascend, on a page, and answers the page and its stamp."""

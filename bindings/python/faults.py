@@ -1,12 +1,14 @@
 """A system whose reads, writes and syncs fail, and whose power goes.
 
-It stands in for the module os of dilluvas_file, and keeps of one file what was written since its last sync.
+It stands in for the module os of dilluvas_file and dilluvas_paths, and keeps of one file what was written since its last sync.
 """
 
 import errno
 import os
+import stat
 
 import dilluvas_file
+import dilluvas_paths
 
 # What comes of the call at which things go wrong: it fails, or the power goes.
 FAILS, ENDS = "fails", "ends"
@@ -25,6 +27,7 @@ class System:
         self._random = random
         # of the file that was written last: which one it is, what was there before each write since its last sync, and its size by then
         self._file, self._unsynced, self._synced_size = None, [], 0
+        # a new name, the old one, and a name for the file that had the new one, if there was one: until the folder is synced
         self._renamed = None
         self.is_off = self.drops_syncs = False
         self.disarm()
@@ -33,11 +36,11 @@ class System:
         return getattr(os, name)
 
     def __enter__(self):
-        dilluvas_file.os = self
+        dilluvas_file.os = dilluvas_paths.os = self
         return self
 
     def __exit__(self, *_):
-        dilluvas_file.os = os
+        dilluvas_file.os = dilluvas_paths.os = os
 
     def disarm(self):
         self.stops_at, self.stop, self.is_lasting = None, FAILS, False
@@ -63,7 +66,7 @@ class System:
         self.failed_writes += 1
         raise OSError(self._random.choice(numbers), "it fails")
 
-    # ---- What dilluvas_file calls.
+    # ---- What dilluvas_file and dilluvas_paths call.
 
     def pread(self, descriptor, count, at):
         if self.fails_one_read_of and self._random.randrange(self.fails_one_read_of) == 0:
@@ -105,17 +108,36 @@ class System:
         self._renamed = (old, new, kept)
         os.rename(old, new)
 
+    def link(self, old, new):
+        if self._goes_wrong():
+            if self.stop == FAILS and self._random.randrange(3) == 0:
+                # a system that has no second names, which is gone about
+                raise OSError(errno.EPERM, "it has none")
+            self._go_wrong(errno.EACCES, errno.ENOSPC)
+        self._forget_rename()
+        os.link(old, new)
+        self._renamed = (old, new, None)
+
     def unlink(self, path):
         if self.is_off:
             raise PowerCut
-        if os.stat(path).st_ino == self._file:
+        # it doesn't fail, but the power may go in front of it
+        self.calls += 1
+        if self.stop == ENDS and self.calls == self.stops_at:
+            self.is_off = True
+            raise PowerCut
+        found = os.stat(path)
+        if found.st_ino == self._file and found.st_nlink == 1:
             self._unsynced = []
         os.unlink(path)
 
-    def fsync(self, folder):
+    def fsync(self, descriptor):
         if self._goes_wrong():
             self._go_wrong(errno.EIO)
-        self._forget_rename()
+        if stat.S_ISDIR(os.fstat(descriptor).st_mode):
+            self._forget_rename()
+        else:
+            self._sync(descriptor)
 
     def may_vanish(self):
         """Whether a file that stood nowhere before has a name that may be lost."""
@@ -154,10 +176,7 @@ class System:
         if self._renamed is not None:
             old, new, kept = self._renamed
             if self._random.randrange(2):
-                os.rename(new, old)
-                if kept is not None:
-                    os.rename(kept, new)
-                self._renamed = None
+                self._take_back(old, new, kept)
             self._forget_rename()
         if self._unsynced and os.path.exists(path) and os.stat(path).st_ino == self._file:
             with open(path, "r+b") as file:
@@ -166,6 +185,16 @@ class System:
                 file.write(left)
                 file.truncate()
         self._unsynced = []
+
+    # The new name of a file is lost. It has the old one, if another file hasn't.
+    def _take_back(self, old, new, kept):
+        if os.path.exists(old):
+            os.unlink(new)
+        else:
+            os.rename(new, old)
+        if kept is not None:
+            os.rename(kept, new)
+        self._renamed = None
 
     def _left(self, written):
         left = bytearray(written)
