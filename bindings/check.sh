@@ -66,7 +66,7 @@ if command -v cargo >/dev/null; then
 fi
 if command -v python3 >/dev/null; then
     export PYTHONDONTWRITEBYTECODE=1
-    for name in calls paths races interrupted; do
+    for name in calls paths races interrupted threads forked objects; do
         DILLUVAS_SO=$out/libdilluvas.so python3 "$here/python/$name.py"
     done
     # the loop in Python and then that in C, with failing devices and refused memory

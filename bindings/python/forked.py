@@ -1,0 +1,176 @@
+"""Children that are forked while a cache is open: they neither unlock nor write the file of their parent, and none hangs."""
+
+import gc
+import os
+import pathlib
+import subprocess
+import sys
+import tempfile
+import threading
+import time
+
+from dilluvas import HELD, OK, READ, WRITE, Cache
+from dilluvas_file import FileCache
+from inputs import CALLS, answer_in, in_child, status_elsewhere, status_of, written
+
+# So many seconds has a child: one that hangs is told as that.
+LONGEST = 20
+
+
+def in_time(call):
+    """What a call answers in a child, which is ended where it hangs."""
+
+    def called():
+        threading.Thread(target=lambda: (time.sleep(LONGEST), os._exit(99)), daemon=True).start()
+        return call()
+
+    return answer_in(in_child(called))
+
+
+def closes_alone(folder):
+    """The file stays locked for the parent, however the child lets the cache go."""
+    path = written(os.path.join(folder, "closed in a child"))
+    os.chmod(path, 0o666)
+    caches = [FileCache(path)]
+
+    def let_go():
+        caches.clear()
+        gc.collect()
+        return OK
+
+    for leave in (lambda: caches[0].close() or OK, let_go, lambda: status_of(caches[0].flush)):
+        assert in_time(leave) == OK
+        assert status_elsewhere(lambda: FileCache(path)) == HELD
+    caches.pop().close()
+    assert status_elsewhere(lambda: FileCache(path)) == OK
+
+
+def is_unlocked_for_a_child(folder):
+    """What the parent closes can be opened, though a child has it open still."""
+    path = written(os.path.join(folder, "closed in the parent"))
+    to_read, to_write = os.pipe()
+    cache = FileCache(path)
+    child = in_child(lambda: os.close(to_write) or len(os.read(to_read, 1)))
+    os.close(to_read)
+    cache.close()
+    FileCache(path).close()
+    os.close(to_write)
+    assert answer_in(child) == OK
+
+
+def neither_writes_nor_reads(folder):
+    path = written(os.path.join(folder, "used in a child"))
+    with FileCache(path) as cache:
+        cache.allocate([(b"pending", b"")])
+        content = pathlib.Path(path).read_bytes()
+        assert in_time(lambda: status_of(cache.get, 2)) == READ
+        assert in_time(lambda: status_of(cache.get, 3)) == OK
+        assert in_time(lambda: status_of(cache.compact)) == WRITE
+        assert in_time(lambda: status_of(cache.set, 3, 1, b"pending", b"more")) == OK
+        assert in_time(lambda: status_of(cache.flush)) == WRITE
+        assert in_time(lambda: status_of(cache.flush) and status_of(cache.allocate)) == WRITE
+        assert os.listdir(folder).count("used in a child.dilluvas-new") == 0
+        assert pathlib.Path(path).read_bytes() == content
+        assert cache.get(3).pairs == [(b"pending", b"")] and cache.flush() > 0
+    with FileCache(path) as cache:
+        assert cache.get(2) is not None and cache.get(3) is not None
+
+
+def between_calls(folder):
+    """A child that is forked while other threads are in calls hangs nowhere."""
+    path = written(os.path.join(folder, "used by threads"))
+    for cache in (FileCache(path), Cache()):
+        cache.allocate([(b"k", b"v")])
+        is_over = threading.Event()
+
+        def use():
+            while not is_over.is_set():
+                page, _ = cache.allocate([(b"k", b"v" * 1000)])
+                cache.get(page)
+                cache.flush()
+
+        def leave():
+            statuses = {status_of(getattr(cache, name), *arguments) for name, arguments in CALLS.items() if name != "cas_root"}
+            cache.close()
+            return OK if statuses else READ
+
+        threads = [threading.Thread(target=use) for _ in range(4)]
+        for thread in threads:
+            thread.start()
+        try:
+            for _ in range(20):
+                assert in_time(leave) == OK
+        finally:
+            is_over.set()
+            for thread in threads:
+                thread.join()
+        last, _ = cache.allocate()
+        cache.flush()
+        cache.close()
+        with FileCache(path) as again:
+            assert not isinstance(cache, FileCache) or again.get(last) is not None and again.get(last + 1) is None
+
+
+AT_EXIT = """
+import os, sys, threading
+from dilluvas_file import FileCache
+cache = FileCache(sys.argv[1])
+busy = threading.Event()
+def hold():
+    with cache._lock:
+        busy.set()
+        ended.wait()
+ended = threading.Event()
+threading.Thread(target=hold).start()
+busy.wait()
+child = os.fork()
+if child == 0:
+    sys.exit(0)
+status = os.waitstatus_to_exitcode(os.waitpid(child, 0)[1])
+ended.set()
+assert status == 0
+"""
+
+
+def at_exit(folder):
+    """A child that ends like any program says nothing and waits for no thread that its parent alone has."""
+    ended = run_program(AT_EXIT, os.path.join(folder, "at exit"))
+    assert (ended.returncode, ended.stderr) == (0, b""), ended
+
+
+def run_program(text, *arguments):
+    place = os.path.dirname(os.path.abspath(__file__))
+    return subprocess.run(
+        # later Pythons warn of a fork beside threads
+        (sys.executable, "-W", "ignore", "-c", text, *arguments),
+        env={**os.environ, "PYTHONPATH": place}, capture_output=True, timeout=LONGEST, check=False,
+    )  # fmt: skip
+
+
+TOO_LONG = """
+import resource, sys
+from dilluvas import Refused
+from dilluvas_file import FileCache
+cache = FileCache(sys.argv[1])
+cache.allocate([(b"k", b"v" * 100000)])
+resource.setrlimit(resource.RLIMIT_FSIZE, (20000, resource.RLIM_INFINITY))
+try:
+    cache.flush()
+except Refused as refused:
+    sys.exit(refused.status)
+"""
+
+
+def a_limit_of_files(folder):
+    """A write behind the limit of a process fails, and doesn't end it."""
+    path = written(os.path.join(folder, "limited"))
+    ended = run_program(TOO_LONG, path)
+    assert (ended.returncode, ended.stderr) == (WRITE, b""), ended
+    with FileCache(path) as cache:
+        assert cache.get(2) is not None and cache.get(3) is None
+
+
+with tempfile.TemporaryDirectory() as made:
+    os.chmod(made, 0o755)
+    for test in (closes_alone, is_unlocked_for_a_child, neither_writes_nor_reads, between_calls, at_exit, a_limit_of_files):
+        test(made)
