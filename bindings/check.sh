@@ -74,6 +74,9 @@ if command -v python3 >/dev/null; then
     "${CC:-cc}" -std=c11 -Wall -Wextra -Wpedantic -Werror -O2 -fPIC -shared -o "$out/libhooked.so" "$here/c/hooks.c" -I"$out" \
         -Wl,--whole-archive "$out/libdilluvas.a" -Wl,--no-whole-archive -Wl,--wrap=malloc,--wrap=calloc,--wrap=realloc
     DILLUVAS_SO=$out/libhooked.so python3 "$here/python/model.py" 0 50
+    for name in dilluvas hooked; do
+        DILLUVAS_SO=$out/lib$name.so python3 "$here/python/forgetful.py"
+    done
     echo 'Python: passed'
 fi
 "$here/readme.sh"

@@ -153,12 +153,13 @@ def leads_to(name, opened):
 
 
 def check_is_plain(empty):
-    """Refuses an empty file that is the system's own: it has bytes although it tells that it has none, or can't be synced."""
+    """Refuses an empty file that is the system's own: it has bytes although it tells that it has none, or isn't one to be synced."""
     try:
         os.fsync(empty.number)
+    except OSError as error:
+        raise Refused(NO_FILE if error.errno == errno.EINVAL else WRITE) from error
+    with told_as(READ):
         is_plain = not os.pread(empty.number, 1, 0)
-    except OSError:
-        is_plain = False
     if not is_plain:
         raise Refused(NO_FILE)
 

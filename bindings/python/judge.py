@@ -5,7 +5,7 @@ import os
 import random
 
 import c_loop
-from dilluvas import NO_ACCESS, NO_FILE, OK, READ, STALE, WRITE, Refused, Stale
+from dilluvas import NO_ACCESS, OK, READ, STALE, WRITE, Refused, Stale
 from dilluvas_file import FileCache
 from faults import ENDS, FAILS, PowerCut, System
 from history import History
@@ -154,14 +154,12 @@ class Script:
     def _is_unopened(self, status, was_there):
         """Why it wasn't opened, and that the file is as it was."""
         self.counts["openings refused"] += 1
-        # an empty file is read and synced first, and is none where that fails
-        is_of_empty = status == NO_FILE and os.path.exists(self.path) and not self._is_there()
         if self.system.failed_writes:
-            check(is_of_empty or status in (WRITE, NO_ACCESS), "a write failed", status)
+            check(status in (WRITE, NO_ACCESS), "a write failed", status)
         elif status == MEMORY:
             check(self.was_refused, "no allocation failed")
         else:
-            check(self.system.failed_reads and (is_of_empty or status == READ), "refused", status)
+            check(self.system.failed_reads and status == READ, "refused", status)
         check(self.was_left or not os.path.exists(self.path + ".dilluvas-new"), "a new file is left")
         if was_there:
             self._end_of_file()

@@ -9,7 +9,7 @@ import tempfile
 
 import dilluvas_file
 import dilluvas_paths
-from dilluvas import HELD, NO_ACCESS, NO_FILE, OK, WRITE
+from dilluvas import HELD, NO_ACCESS, NO_FILE, OK, READ, WRITE
 from dilluvas_file import FileCache
 from inputs import is_whole, status_of, written
 from machine import CORRUPTION
@@ -206,9 +206,14 @@ def files_of_the_system(folder):
             assert pathlib.Path(path).read_bytes() == content
     path = os.path.join(folder, "of the system")
     pathlib.Path(path).write_bytes(b"")
-    for refusing in ({"fsync": raising(errno.EINVAL)}, {"pread": lambda *_: b"1"}, {"pread": raising(errno.EIO)}):
+    for refusing, status in (
+        ({"fsync": raising(errno.EINVAL)}, NO_FILE),
+        ({"fsync": raising(errno.EIO)}, WRITE),
+        ({"pread": lambda *_: b"1"}, NO_FILE),
+        ({"pread": raising(errno.EIO)}, READ),
+    ):
         with Instead(FileIO=only_at(path), **refusing):
-            assert status_of(FileCache, path) == NO_FILE
+            assert status_of(FileCache, path) == status
     assert os.path.getsize(path) == 0 and nothing_beside(path)
 
 
