@@ -5,7 +5,7 @@ ghost use Rattle.std.specs.Prelude.{◌≡◌};
 use sled_pagecache::{
     Config, Disk, DiskLog, Error, FileDisk, IVec, Link, Node, PageCache, PageId, PageView,
 };
-use std::alloc::Global;
+use std::alloc::{Alloc, Global};
 use std::fs::{File, Files};
 use std::io;
 
@@ -33,7 +33,11 @@ const CONFIG: Config = Config {
 pub const PAIRS: PageId = 2;
 
 /// Opens the file, and makes it where it is absent or empty. It is closed once the store goes out of scope.
-pub fn open<H: Files<File = File>>(files: &H, alloc: Global, path: &str) -> Result<Store, Error> {
+pub fn open<H: Files<File = File> + Alloc>(
+    files: &H,
+    alloc: Global,
+    path: &str,
+) -> Result<Store, Error> {
     let mut disk = FileDisk::open(files, path)?;
     if disk.len()? == 0 {
         DiskLog::create(&mut disk)?;

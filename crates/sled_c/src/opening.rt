@@ -22,7 +22,7 @@ pub type FileCache = PageCache<FileLog>;
 // So many bytes has the file of a log that holds nothing.
 const NEW_SIZE: u64 = 9;
 
-/// A cache that is being opened over a file: the file is synced, then its log is read, and then the cache's own pages are.
+/// A cache that is being opened over a file: its log is read, what was read is made durable, and then the cache's own pages are read.
 ///
 /// Where bytes are needed the call is made again with these, and goes on. While the log is read one piece at a time is needed, and let
 /// go before the next.
@@ -41,7 +41,9 @@ enum Step {
     Unread(StagedDisk),
     // a part of the log was
     Reading(Reader, StagedDisk),
-    // all of it was
+    // all of it was, and isn't known to be durable
+    Unsynced(Reader, StagedDisk),
+    // all of it was, and is durable
     Read(ReadLog),
 }
 
@@ -74,6 +76,7 @@ impl Opening {
         match &self.step {
             Some(Step::Unread(disk)) => Some(disk),
             Some(Step::Reading(_, disk)) => Some(disk),
+            Some(Step::Unsynced(_, disk)) => Some(disk),
             Some(Step::Read(read)) => Some(read.log.disk()),
             None => None,
         }
@@ -160,19 +163,17 @@ impl Opening {
         match self.step.take() {
             Some(Step::Unread(disk)) => self.begin(alloc, disk),
             Some(Step::Reading(reader, disk)) => self.read(alloc, reader, disk),
+            Some(Step::Unsynced(reader, disk)) => self.make_durable(alloc, reader, disk),
             Some(Step::Read(read)) => Ok(Some(read)),
             None => Err(status_of_log(LogError::WriteFault)),
         }
     }
 
-    // Syncs the file, and begins to read its log.
+    // Begins to read the log.
     fn begin(&mut self, alloc: Global, mut disk: StagedDisk) -> Result<Option<ReadLog>, u32>
         ensures fails { IfErr result IsFailure }
         ensures config { self.new.config ≡ self.old.config }
     {
-        if let Err(error) = disk.sync() {
-            return Err(status_of_log(error));
-        }
         match Reader::begin(alloc, &mut disk) {
             Ok(reader) => self.read(alloc, reader, disk),
             Err(error) => {
@@ -187,19 +188,44 @@ impl Opening {
     fn read(
         &mut self,
         alloc: Global,
-        reader: Reader,
-        disk: StagedDisk,
+        mut reader: Reader,
+        mut disk: StagedDisk,
     ) -> Result<Option<ReadLog>, u32>
         ensures fails { IfErr result IsFailure }
         ensures config { self.new.config ≡ self.old.config }
     {
+        match reader.read(&mut disk) {
+            Ok(_) => self.make_durable(alloc, reader, disk),
+            Err(error) => {
+                let needs = disk.needs();
+                disk.forget();
+                self.wait(status_of_log(error), needs, Step::Reading(reader, disk))?;
+                Ok(None)
+            }
+        }
+    }
+
+    // Makes durable what was read, and makes the log of it.
+    fn make_durable(
+        &mut self,
+        alloc: Global,
+        reader: Reader,
+        mut disk: StagedDisk,
+    ) -> Result<Option<ReadLog>, u32>
+        ensures fails { IfErr result IsFailure }
+        ensures config { self.new.config ≡ self.old.config }
+    {
+        if let Err(error) = reader.make_durable(&mut disk) {
+            let needs = disk.needs();
+            self.wait(status_of_log(error), needs, Step::Unsynced(reader, disk))?;
+            return Ok(None);
+        }
         let segment_size = self.config.segment_size as u64;
         match DiskLog::open_with(alloc, reader, disk, segment_size, 0) {
             Ok(log) => Ok(Some(ReadLog { log })),
             Err((error, reader, disk)) => {
                 let needs = disk.needs();
-                disk.forget();
-                self.wait(status_of_log(error), needs, Step::Reading(reader, disk))?;
+                self.wait(status_of_log(error), needs, Step::Unsynced(reader, disk))?;
                 Ok(None)
             }
         }

@@ -9,6 +9,8 @@ pub mod FrameWrite
 mod Overlays
 mod Journal
 mod Staged
+mod ShortWrites
+mod Still
 mod HandedIn
 mod DiskMoments
 mod Waiting

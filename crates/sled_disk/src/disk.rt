@@ -1,20 +1,24 @@
 //! A disk as a log sees it: bytes that are read, written and synced, and what a crash leaves of them.
 
-ghost use Rattle.std.specs.Prelude.{◌≡◌, ◌+◌, ◌≤◌, ◌<◌, List, ℕ, length, take, drop, get_or, IfOk, OnOk, IfErr};
+ghost use Rattle.std.specs.Prelude.{◌≡◌, ◌+◌, ◌≤◌, ◌<◌, ◌⊎◌, List, ℕ, length, take, drop, get_or, IfOk, OnOk, IfErr};
 ghost use Rattle.sled_log.specs.Calls.{Counts, HasCause, one_more};
 ghost use Rattle.sled_disk.specs.Disk.{Only, Follows, LeavesNoMore, Torn, overlaid, Elapses};
 ghost use Rattle.sled_log.specs.declared.log.LogError.TheVariants.{Memory, ReadFault, WriteFault};
 
 mod file;
 mod journal;
+mod limit;
 mod memory;
+mod opening;
 mod staged;
+mod system;
 
 pub use file::FileDisk;
 pub(crate) use journal::count;
 pub use memory::MemDisk;
 use sled_log::LogError;
 pub use staged::{StagedDisk, Task};
+pub use system::SystemFile;
 
 /// A disk: bytes in order, which are read and written at a place.
 ///
@@ -100,6 +104,16 @@ pub trait Disk: Drop {
         ensures only { IfErr result (λ e. e ≡ WriteFault) }
         ensures cause { HasCause (counts self.old) (counts self.new) result }
         ensures reads { (counts self.new).reads ≡ (counts self.old).reads };
+
+    /// Reads the byte at a place, and writes it again: no byte and no crash state changes, since a byte isn't torn. The next sync then
+    /// makes durable what a read gives there, also where the system took it for durable after a sync that failed.
+    fn write_again(&mut self, at: u64) -> Result<(), LogError>
+        ensures seen { tells → seen self.new ≡ seen self.old }
+        ensures stop { tells → LeavesNoMore (may_leave self.old) (may_leave self.new) }
+        ensures time { tells → Elapses moment left_since may_leave self.old self.new }
+        ensures only { IfErr result (λ e. (e ≡ ReadFault) ⊎ (e ≡ WriteFault)) }
+        ensures cause { HasCause (counts self.old) (counts self.new) result }
+        ensures reads { (counts self.new).reads ≡ one_more (counts self.old).reads };
 
     /// How often it was read. Each count stays at `u64::MAX`.
     fn reads(&self) -> u64

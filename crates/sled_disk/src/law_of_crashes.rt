@@ -9,7 +9,7 @@ ghost use Rattle.sled_log.specs.Calls.{HasGrown};
 ghost use Rattle.sled_disk.specs.DiskMemory.{clock_of, counts_of};
 ghost use Rattle.sled_log.specs.declared.log.LogError.TheVariants.{Full, ReadFault, WriteFault, Corruption};
 
-use crate::disk::MemDisk;
+use crate::disk::{FileDisk, MemDisk, SystemFile};
 use crate::log::DiskLog;
 use sled_log::runs::make_calls;
 use sled_log::{Log, LogCall, LogError};
@@ -18,6 +18,16 @@ use std::alloc::Global;
 /// A log on a disk in memory tells its bytes.
 pub fn a_log_on_a_disk_in_memory_tells()
     ensures { ⟦<DiskLog<MemDisk> as Log>⟧.tells }
+{}
+
+/// A log on a file of the system tells its bytes, if the system keeps its word of the file.
+pub fn a_log_on_a_file_tells<F: SystemFile>()
+    ensures { F.tells → ⟦<DiskLog<FileDisk<F>> as Log>⟧.tells }
+{}
+
+/// There are such files: a log on one that is in memory tells its bytes.
+pub fn a_log_on_a_file_in_memory_tells()
+    ensures { ⟦<DiskLog<FileDisk<MemDisk>> as Log>⟧.tells }
 {}
 
 /// What is known of a log at rest.

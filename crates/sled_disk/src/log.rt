@@ -91,7 +91,8 @@ impl<D: Disk> DiskLog<D> {
         disk.sync()
     }
 
-    /// The log of a file on a disk, which is synced once and then read: all that the file describes is durable, and nothing is pending.
+    /// The log of a file on a disk, which is read, and of which the last open gate is written again and synced: all that the file describes
+    /// is durable, and nothing is pending.
     ///
     /// An `append` outside a batch that leaves `segment_size` bytes of records pending writes them, which takes two syncs. So between two
     /// flushes a log syncs twice for each `segment_size` bytes: some thousands keep little in memory, a million suits many writes in a
@@ -99,8 +100,8 @@ impl<D: Disk> DiskLog<D> {
     /// file before all others (0: none).
     ///
     /// Corruption: the file describes no events, as one with fewer than nine bytes; no crash of a log leaves such a file. ReadFault and
-    /// WriteFault: the device failed to read, or to sync. Memory: an allocation failed. At an error the disk comes back, which was
-    /// read and synced at most.
+    /// WriteFault: the device failed to read, or to write that byte or to sync. Memory: an allocation failed. At an error the disk comes
+    /// back, on which nothing else was done.
     pub fn open(
         alloc: Global,
         mut disk: D,
@@ -130,21 +131,21 @@ impl<D: Disk> DiskLog<D> {
         ensures write_fault { IfErr result (λ e. e.0 ≡ WriteFault
             → HasGrown (D.counts disk).write_faults (D.counts e.1).write_faults) }
     {
-        if let Err(e) = disk.sync() {
-            return Err((e, disk));
-        }
-        let reader = match Reader::begin(alloc, &mut disk) {
+        let reader = match Reader::read_whole(alloc, &mut disk) {
             Ok(reader) => reader,
             Err(e) => return Err((e, disk)),
         };
+        if let Err(e) = reader.make_durable(&mut disk) {
+            return Err((e, disk));
+        }
         match DiskLog::open_with(alloc, reader, disk, segment_size, clean_every) {
             Ok(log) => Ok(log),
             Err((e, _, disk)) => Err((e, disk)),
         }
     }
 
-    /// The log of a file whose reading was begun: the last step of `open`, after a sync of the disk and `Reader::begin`, for a caller
-    /// who goes on after a fault. The two numbers are those of `open`.
+    /// The log of a file that was read and is durable: the last step of `open`, behind `Reader::begin`, `Reader::read` and
+    /// `Reader::make_durable`, for a caller who goes on after a fault. The two numbers are those of `open`.
     ///
     /// ReadFault: the device failed to read. Memory: an allocation failed. Corruption: the file describes no events. At an error the
     /// disk comes back, which was read at most, and beside it the reader: with both the call can be made again, and goes on where it

@@ -29,6 +29,8 @@ pub struct Reader {
     at: u64,
     // where that body ends; at a gate, its place
     body_end: u64,
+    // the place of the last gate that was open; before any, of the first
+    opened: u64,
     pages: Vec<Vec<Head>>,
     // the messages of pages
     names: Names,

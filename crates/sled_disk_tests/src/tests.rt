@@ -3,6 +3,7 @@ ghost use Rattle.sled_log.specs.Calls.{one_more};
 
 mod disks;
 mod files;
+mod forgetful;
 mod marks;
 mod moves;
 mod opening;
@@ -13,7 +14,7 @@ mod staged;
 use sled_base::PageState;
 use sled_disk::{Disk, DiskLog, FileDisk, MemDisk, Reader};
 use sled_log::{Log, LogError};
-use std::alloc::Global;
+use std::alloc::{Alloc, Global};
 use std::fs::{File, Files};
 
 // The file after the first start of a cache: its named roots, of which there are none, and its counter of ids.

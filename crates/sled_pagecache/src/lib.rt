@@ -25,6 +25,6 @@ pub use sled_base::{
     self, BatchManifest, BlobPointer, Bug, ConsumeSequence, Device, DiskPtr, Error, IVec, LogKind,
     LogOffset, Lsn, MessageKind, PageId, PageState, Refusal, SegmentId, Serialize, Why,
 };
-pub use sled_disk::{self, Disk, DiskLog, FileDisk, MemDisk};
+pub use sled_disk::{self, Disk, DiskLog, FileDisk, MemDisk, SystemFile};
 pub use sled_log::{self, Log, LogError, MemLog, Payload};
 pub use sled_node::{self, Data, Index, Item, Leaf, Link, Meta, Node};

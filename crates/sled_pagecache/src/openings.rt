@@ -1,13 +1,14 @@
 //! What holds of caches that are opened over one log, one after another.
 
 ghost use Rattle.std.specs.Prelude.{List, []};
+ghost use Rattle.sled_disk.specs.declared.disk.file.FileDisk.{FileDisk};
 ghost use Rattle.sled_disk.specs.declared.disk.memory.MemDisk.{MemDisk};
 ghost use Rattle.sled_disk.specs.declared.log.DiskLog.{DiskLog};
 ghost use Rattle.sled_pagecache.specs.Prefixes.{history_from};
 ghost use Rattle.sled_pagecache.specs.Openings.{Opening, IsEmpty, IsRun, KeepIntervals, ids_of, AreRising};
 ghost use Rattle.sled_pagecache.specs.Prefixes.{ShowPrefixes};
 
-use sled_disk::{Disk, DiskLog, MemDisk};
+use sled_disk::{Disk, DiskLog, FileDisk, MemDisk, SystemFile};
 use sled_log::Log;
 
 /// From an empty log, over every list of openings, calls, crashes at any moment, and logs handed on or rewritten: each opening's cache is
@@ -36,9 +37,33 @@ pub fn every_opening_of_a_disk_shows_a_prefix()
     every_opening_shows_a_prefix::<DiskLog<MemDisk>>();
 }
 
+/// The same over a log on a file of the system, if the system keeps its word: what that is, `SystemFile` says.
+pub fn every_opening_of_a_file_shows_a_prefix<F: SystemFile>()
+    ensures { F.tells
+        → (log : DiskLog (FileDisk F F.SystemFile) ⟦<FileDisk<F> as Disk>⟧)
+        (openings : List (Opening (DiskLog (FileDisk F F.SystemFile) ⟦<FileDisk<F> as Disk>⟧)))
+        → IsEmpty ⟦<DiskLog<FileDisk<F>> as Log>⟧ log
+        → IsRun ⟦<DiskLog<FileDisk<F>> as Log>⟧ log openings
+        → ShowPrefixes ⟦<DiskLog<FileDisk<F>> as Log>⟧ (history_from []) openings }
+{
+    every_opening_shows_a_prefix::<DiskLog<FileDisk<F>>>();
+}
+
 /// From an empty log, over every list of openings as above in which no config has a shorter interval of ids than one before it: each
 /// generated id is above every id that was answered before it. So none comes twice, whatever crashes and rewritten logs come between.
 pub fn ids_are_given_once<L: Log>()
     ensures { L.tells → (log : L) (openings : List (Opening L)) → IsEmpty L.Log log
         → IsRun L.Log log openings → KeepIntervals 0 openings → AreRising (ids_of openings) }
 {}
+
+/// The same over a log on a file of the system, if the system keeps its word.
+pub fn ids_over_a_file_are_given_once<F: SystemFile>()
+    ensures { F.tells
+        → (log : DiskLog (FileDisk F F.SystemFile) ⟦<FileDisk<F> as Disk>⟧)
+        (openings : List (Opening (DiskLog (FileDisk F F.SystemFile) ⟦<FileDisk<F> as Disk>⟧)))
+        → IsEmpty ⟦<DiskLog<FileDisk<F>> as Log>⟧ log
+        → IsRun ⟦<DiskLog<FileDisk<F>> as Log>⟧ log openings
+        → KeepIntervals 0 openings → AreRising (ids_of openings) }
+{
+    ids_are_given_once::<DiskLog<FileDisk<F>>>();
+}

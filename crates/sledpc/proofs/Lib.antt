@@ -16,3 +16,4 @@ pub mod Marks
 pub mod Replied
 pub mod Leaves
 pub mod Job
+pub mod OverDisk

@@ -11,3 +11,4 @@ pub mod Runs
 pub mod Served
 pub mod Asked
 pub mod Job
+pub mod OverDisk

@@ -11,17 +11,19 @@ ghost use Rattle.sledpc.specs.Output.{Writes};
 ghost use Rattle.sledpc.specs.Settings.{settings, log_settings, status_of, ended, failed, wrong_words};
 
 mod crew;
+mod over_disk;
 
 use crate::output::{Unwritten, write_rest};
 use crate::piece::Piece;
-use crate::script::run::{RunError, run};
+use crate::script::run::RunError;
 use crate::script::words::number_of;
 use crew::draw_ids;
-use sled_disk::{Disk, DiskLog, FileDisk};
-use sled_pagecache::{Config, Error, Log, LogError, MemLog, PageCache};
-use std::alloc::Global;
+use over_disk::{serve, serve_on};
+use sled_disk::FileDisk;
+use sled_pagecache::{Config, Error, MemLog, PageCache};
+use std::alloc::{AllocGlobal, Global};
 use std::fs::{File, Files};
-use std::io::{BufReader, Read, Write};
+use std::io::{Read, Write};
 use std::marker::Brand;
 use std::sync::Wait;
 use std::sync::ledger::Blank;
@@ -145,8 +147,8 @@ fn drive_by<
         return WRONG_WORDS;
     };
     let outcome = match job {
-        Job::Memory => serve(alloc, open_memory(alloc), reader, writer),
-        Job::OnFile(path) => serve(alloc, open_file(&rt, alloc, path), reader, writer),
+        Job::Memory => serve_memory(alloc, reader, writer),
+        Job::OnFile(path) => serve_file(&(rt, alloc), path, reader, writer),
         Job::Crew(workers, calls) => serve_crew(rt, alloc, workers, calls, writer),
     };
     report(outcome, faults)
@@ -225,51 +227,29 @@ fn new_log(alloc: Global) -> MemLog
     MemLog::new(alloc, BLOB_LIMIT, CLEAN_EVERY)
 }
 
-// Opens the file of a path as a disk that holds a log. One with no bytes, as a new one, is given a log of no messages.
-fn open_disk<H: Files<File = File>>(files: &H, path: &str) -> Result<FileDisk, LogError> {
-    let mut disk = FileDisk::open(files, path)?;
-    if disk.len()? == 0 {
-        DiskLog::create(&mut disk)?;
-    }
-    Ok(disk)
-}
-
-// Opens a cache over the log in a file.
-fn open_file<H: Files<File = File>>(
-    files: &H,
+// Runs the script over a new log in memory.
+fn serve_memory<R: Read, W: Write>(
     alloc: Global,
-    path: &str,
-) -> Result<PageCache<DiskLog<FileDisk>>, Error>
-    ensures { IfOk result (λ cache. cache.batch ≡ false) }
-{
-    let disk = open_disk(files, path)?;
-    let log = match DiskLog::open(alloc, disk, CONFIG.segment_size as u64, CLEAN_EVERY) {
-        Ok(log) => log,
-        Err((error, _)) => return Err(error.into()),
-    };
-    match PageCache::start(alloc, CONFIG, log) {
-        Ok(cache) => Ok(cache),
-        Err((error, _)) => Err(error),
-    }
-}
-
-// Runs the script over a cache, where one was opened.
-fn serve<L: Log, R: Read, W: Write>(
-    alloc: Global,
-    opened: Result<PageCache<L>, Error>,
     reader: &mut R,
     writer: &mut W,
-) -> Result<(), Fault>
-    requires { IfOk opened (λ cache. cache.batch ≡ false) }
-{
-    let mut cache = match opened {
-        Ok(cache) => cache,
-        Err(error) => return Err(Fault::Opening(error)),
-    };
-    let Ok(mut input) = BufReader::new(alloc, reader) else {
-        return Err(Fault::Run(RunError::Memory));
-    };
-    run(alloc, &mut cache, &mut input, writer).map_err(Fault::Run)
+) -> Result<(), Fault> {
+    match open_memory(alloc) {
+        Ok(mut cache) => serve(alloc, &mut cache, reader, writer),
+        Err(error) => Err(Fault::Opening(error)),
+    }
+}
+
+// Runs the script over the log in the file of a path.
+fn serve_file<H: Files<File = File> + AllocGlobal, R: Read, W: Write>(
+    rt: &H,
+    path: &str,
+    reader: &mut R,
+    writer: &mut W,
+) -> Result<(), Fault> {
+    match FileDisk::open(rt, path) {
+        Ok(disk) => serve_on(rt.alloc(), disk, reader, writer),
+        Err(error) => Err(Fault::Opening(error.into())),
+    }
 }
 
 // Draws ids in threads, and tells how many calls that were.

@@ -1,121 +1,129 @@
 //! A disk over a file of the system.
 
-ghost use Rattle.std.specs.Prelude.{◌≡◌, ◌⊎◌, ℕ, [], IfOk, IfErr};
+ghost use Rattle.std.specs.Prelude.{◌≡◌, ◌⊎◌, ◌+◌, ◌≤◌, ◌<◌, ◌^◌, ℕ, [], List, length, take, drop, get_or, false, true, IsTrue, IfOk, IfErr, OnOk};
 ghost use Rattle.sled_log.specs.Calls.{Counts, HasCause, one_more};
+ghost use Rattle.sled_disk.specs.Disk.{Only, Follows, LeavesNoMore, Torn, overlaid, Elapses};
 ghost use Rattle.sled_log.specs.declared.log.LogError.TheVariants.{Memory, ReadFault, WriteFault};
 
 use super::Disk;
 use super::journal::count;
+use super::system::SystemFile;
 use sled_log::LogError;
-use std::fs::{File, Files, OpenFile, OpenOptions};
-use std::io;
-use std::io::{ErrorKind, Seek, SeekFrom};
-use std::os::unix::fs::FileExt;
-use std::path::Path;
+use std::fs::File;
 
-/// A file of the system. No call promises which bytes a read gives, or what a crash leaves: all that is known is why a call fails, and
-/// the counts.
+/// A disk over a file of the system, which tells its bytes where the file does: it is a disk as the trait describes it, if the file
+/// is one as `SystemFile` describes it.
 ///
-/// A file that the system keeps as it should is a disk as the trait describes it. Where someone else writes to it or cuts it, it
-/// isn't: so a read past the end fails, and a write that begins past the end does, and leaves no hole. After a write or a sync that
-/// failed no later one is made, and each is answered with WriteFault: the system may have forgotten what wasn't durable. What was
+/// A read past the end fails, and a write that begins past the end does, and leaves no hole. After a write or a sync that failed no later one
+/// is made, and each is answered with WriteFault: the system may have dropped what wasn't durable, and answer Ok to the next sync. What was
 /// durable is there when the file is opened again.
 #[derive(Drop)]
-pub struct FileDisk {
-    file: File,
+pub struct FileDisk<F: SystemFile = File> {
+    file: F,
+    // no write ends behind it
+    limit: u64,
     failed: bool,
     reads: u64,
     failed_reads: u64,
     write_faults: u64,
+    ghost sound: { F.tells → failed ≡ false → F.has_failed file ≡ false },
 }
 
-impl FileDisk {
-    /// Opens a file, which is made where it is absent, and locks it: one process may have it open at a time.
-    ///
-    /// ReadFault: the file can't be opened for reading and writing, is none (a folder, a device), or is open elsewhere.
-    pub fn open<R: Files<File = File>>(files: &R, path: &str) -> Result<FileDisk, LogError>
-        ensures counts { IfOk result (λ disk. ⟦<Self as Disk>⟧.counts disk
-            ≡ record { reads = 0; failed_reads = 0; write_faults = 0 }) }
-        ensures only { IfErr result (λ e. e ≡ ReadFault) }
+impl<F: SystemFile> FileDisk<F> {
+    /// The disk over a file that no write or sync failed on.
+    pub fn new(file: F) -> FileDisk<F>
+        requires sound { F.tells → F.has_failed file ≡ false }
+        ensures file { result.file ≡ file }
+        ensures counts { ⟦<Self as Disk>⟧.counts result
+            ≡ record { reads = 0; failed_reads = 0; write_faults = 0 } }
     {
-        let opened = OpenOptions::new()
-            .read(true)
-            .write(true)
-            .create(true)
-            .open(files, path);
-        let Ok(file) = opened else {
-            return Err(LogError::ReadFault);
-        };
-        let Ok(metadata) = file.metadata() else {
-            return Err(LogError::ReadFault);
-        };
-        // a device says that it has no bytes, and would be written over
-        if !metadata.is_file() {
-            return Err(LogError::ReadFault);
-        }
-        if file.try_lock().is_err() {
-            return Err(LogError::ReadFault);
-        }
-        // a file with no bytes may be new; where its folder can't be synced, that the file is there is the system's promise
-        if metadata.len() == 0 {
-            let _ = sync_folder(files, path);
-        }
-        Ok(FileDisk {
+        FileDisk::within(file, u64::MAX)
+    }
+
+    /// The same, on which no write is made that ends behind that place: it is a WriteFault.
+    pub(super) fn within(file: F, limit: u64) -> FileDisk<F>
+        requires sound { F.tells → F.has_failed file ≡ false }
+        ensures file { result.file ≡ file }
+        ensures counts { ⟦<Self as Disk>⟧.counts result
+            ≡ record { reads = 0; failed_reads = 0; write_faults = 0 } }
+    {
+        FileDisk {
             file,
+            limit,
             failed: false,
             reads: 0,
             failed_reads: 0,
             write_faults: 0,
-        })
+        }
+    }
+
+    /// Ends the disk, and makes nothing durable.
+    pub fn into_file(self) -> F
+        ensures { result ≡ self.file }
+    {
+        self.file
+    }
+
+    // Whether a write of so many bytes begins within the file, or at its end, and ends within the limit. Where someone else has made the
+    // file shorter than the place, it doesn't.
+    fn takes(&self, at: u64, len: usize) -> bool
+        ensures within { F.tells → IsTrue result → at ≤ length (F.seen self.now.file) }
+        ensures small { IsTrue result → at + len < 2 ^ 64 }
+    {
+        let is_within = self.file.size().is_ok_and(|size| at <= size);
+        is_within && at <= self.limit && len as u64 <= self.limit - at
     }
 }
 
-// Makes durable which files the folder of a path has.
-fn sync_folder<R: Files<File = File>>(files: &R, path: &str) -> io::Result<()> {
-    let folder = match Path::new(path).parent() {
-        Some(folder) => folder.as_str(),
-        None => "",
-    };
-    let folder = if folder.is_empty() { "." } else { folder };
-    File::open(files, folder)?.sync_all()
-}
-
-// Writes over what is there, and at the end. Where the file has become shorter than the place, nothing is written. A seek to the end
-// takes a tenth of what the file's metadata do.
-fn write_within(mut file: &File, at: u64, bytes: &[u8]) -> io::Result<()> {
-    if file.seek(SeekFrom::End(0))? < at {
-        return Err(io::Error::from(ErrorKind::UnexpectedEof));
+// Writes all of the bytes at a place, in as many pieces as the system makes of them: whether it did.
+fn write_whole<F: SystemFile>(file: &mut F, at: u64, bytes: &[u8]) -> bool
+    requires sound { F.tells → F.has_failed file.old ≡ false }
+    requires within { F.tells → at ≤ length (F.seen file.old) }
+    requires small { at + length bytes.now < 2 ^ 64 }
+    ensures sound { F.tells → IsTrue result → F.has_failed file.new ≡ false }
+    ensures written { F.tells
+        → IsTrue result → F.seen file.new ≡ overlaid (F.seen file.old) at bytes.now }
+    ensures stop { F.tells
+        → Follows (Torn at (length bytes.now)) (F.may_leave file.old) (F.may_leave file.new) }
+    ensures time { F.tells → Elapses F.moment F.left_since F.may_leave file.old file.new }
+{
+    let mut done = 0;
+    while done < bytes.len() {
+        match file.write_some_at(at + done as u64, &bytes[done..]) {
+            Ok(0) | Err(_) => return false,
+            Ok(n) => done += n,
+        }
     }
-    file.write_all_at(bytes, at)
+    true
 }
 
-impl Disk for FileDisk {
-    ghost tells = { ⊥ };
+impl<F: SystemFile> Disk for FileDisk<F> {
+    ghost tells = { F.tells };
 
-    ghost seen = { λ _. [] };
+    ghost seen = { λ disk. F.seen disk.file };
 
-    ghost may_leave = { λ _ _. ⊥ };
+    ghost may_leave = { λ disk left. F.may_leave disk.file left };
 
-    ghost moment = { λ _. 0 };
+    ghost moment = { λ disk. F.moment disk.file };
 
-    ghost left_since = { λ _ _ _. ⊥ };
+    ghost left_since = { λ disk t left. F.left_since disk.file t left };
 
     ghost counts = { λ disk. record { reads = disk.reads; failed_reads = disk.failed_reads; write_faults = disk.write_faults } };
 
-    ghost are_bytes = { λ disk i told. absurd told };
+    ghost are_bytes = { λ disk i told. F.are_bytes disk.file i told };
 
-    ghost seen_now = { λ disk told. absurd told };
+    ghost seen_now = { λ disk told. F.seen_now disk.file told };
 
-    ghost left_now = { λ disk left told may. absurd told };
+    ghost left_now = { λ disk left told may. F.left_now disk.file left told may };
 
-    ghost only_now = { λ disk left told was. absurd told };
+    ghost only_now = { λ disk left told was. F.only_now disk.file left told was };
 
-    ghost since_earlier = { λ disk t u left told le was. absurd told };
+    ghost since_earlier = { λ disk t u left told le was. F.since_earlier disk.file t u left told le was };
 
     fn len(&mut self) -> Result<u64, LogError> {
         count(&mut self.reads);
-        match self.file.metadata() {
-            Ok(metadata) => Ok(metadata.len()),
+        match self.file.size() {
+            Ok(len) => Ok(len),
             Err(_) => {
                 count(&mut self.failed_reads);
                 Err(LogError::ReadFault)
@@ -125,7 +133,7 @@ impl Disk for FileDisk {
 
     fn read_at(&mut self, at: u64, into: &mut [u8]) -> Result<(), LogError> {
         count(&mut self.reads);
-        match self.file.read_exact_at(into, at) {
+        match self.file.read_whole_at(at, into) {
             Ok(()) => Ok(()),
             Err(_) => {
                 count(&mut self.failed_reads);
@@ -139,21 +147,36 @@ impl Disk for FileDisk {
     }
 
     fn write_at(&mut self, at: u64, bytes: &[u8]) -> Result<(), LogError> {
-        if self.failed || write_within(&self.file, at, bytes).is_err() {
-            self.failed = true;
-            count(&mut self.write_faults);
-            return Err(LogError::WriteFault);
+        if !self.failed && self.takes(at, bytes.len()) && write_whole(&mut self.file, at, bytes) {
+            return Ok(());
         }
-        Ok(())
+        self.failed = true;
+        count(&mut self.write_faults);
+        Err(LogError::WriteFault)
+    }
+
+    fn write_again(&mut self, at: u64) -> Result<(), LogError> {
+        count(&mut self.reads);
+        let mut byte = [0];
+        if self.file.read_whole_at(at, &mut byte).is_err() {
+            count(&mut self.failed_reads);
+            return Err(LogError::ReadFault);
+        }
+        if !self.failed && self.file.write_again_at(at, byte[0]).is_ok() {
+            return Ok(());
+        }
+        self.failed = true;
+        count(&mut self.write_faults);
+        Err(LogError::WriteFault)
     }
 
     fn sync(&mut self) -> Result<(), LogError> {
-        if self.failed || self.file.sync_data().is_err() {
-            self.failed = true;
-            count(&mut self.write_faults);
-            return Err(LogError::WriteFault);
+        if !self.failed && self.file.sync_data().is_ok() {
+            return Ok(());
         }
-        Ok(())
+        self.failed = true;
+        count(&mut self.write_faults);
+        Err(LogError::WriteFault)
     }
 
     fn reads(&self) -> u64 {

@@ -1,6 +1,6 @@
 //! The disk in memory.
 
-ghost use Rattle.std.specs.Prelude.{◌^◌, ⊤, ◌≡◌, ◌≤◌, ◌<◌, ◌+◌, ◌-◌, ◌&&◌, not, nat_eq, ℕ, [], ◌++◌, ◌∷◌, length, take, drop, get_or, true, IsTrue, is_ok, min, vec_len, vec_capacity, IfOk, IfErr, IsOk, OnOk, OnErr};
+ghost use Rattle.std.specs.Prelude.{◌^◌, ⊤, ◌≡◌, ◌≤◌, ◌<◌, ◌+◌, ◌-◌, ◌&&◌, not, Bool, false, nat_eq, ℕ, [], ◌++◌, ◌∷◌, length, take, drop, get_or, true, IsTrue, is_ok, min, vec_len, vec_capacity, IfOk, IfErr, IsOk, OnOk, OnErr};
 ghost use Rattle.sled_log.specs.Calls.{Counts, HasCause, one_more};
 ghost use Rattle.sled_disk.specs.Disk.{overlaid, Torn, Follows, LeavesEach, LeavesNoMore, Only, Elapses};
 ghost use Rattle.sled_disk.specs.Journal.{Write, Sync, are_within, calls_in, call_in, all_synced, after_calls, MayLeave, WasLeft, left_of};
@@ -9,8 +9,11 @@ ghost use Rattle.sled_log.specs.declared.log.LogError.TheVariants.{Memory, ReadF
 
 use super::Disk;
 use super::journal::{Call, add, copy, count, overlay, replay};
+use super::system::SystemFile;
 use sled_log::LogError;
 use std::alloc::{AllocError, Global};
+use std::io;
+use std::io::ErrorKind;
 
 /// A disk in memory, for tests of crashes. It keeps what it held at first and a journal of its writes and syncs, so the crash states
 /// of each moment are known from what is stored, and `stop` gives the disk as a crash left it.
@@ -309,6 +312,11 @@ impl Disk for MemDisk {
         Ok(())
     }
 
+    // What it keeps of a sync that fails it doesn't take for durable, so there is nothing to write.
+    fn write_again(&mut self, at: u64) -> Result<(), LogError> {
+        self.read_at(at, &mut [0])
+    }
+
     fn sync(&mut self) -> Result<(), LogError>
         ensures ok { is_ok result ≡ can_sync self.old }
         ensures durable { OnOk result (Only (bytes_of self.old) (may_leave_of self.new)) }
@@ -342,5 +350,64 @@ impl Disk for MemDisk {
 
     fn write_faults(&self) -> u64 {
         self.write_faults
+    }
+}
+
+/// A file that keeps its word, for tests of what stands on a file: no read of it fails, and a write or a sync does where the disk's does.
+impl SystemFile for MemDisk {
+    ghost use Rattle.sled_disk.specs.DiskMemory.{bytes_of, calls_of, clock_of, may_leave_of, might_have_left};
+
+    ghost tells = { ⊤ };
+
+    ghost has_failed = { λ _. false };
+
+    ghost seen = { λ disk. disk.bytes.items };
+
+    ghost may_leave = { λ disk left. MayLeave (after_calls (all_synced disk.start.items) (calls_of disk)) left };
+
+    ghost moment = { λ disk. length (calls_of disk) };
+
+    ghost left_since = { λ disk t left. WasLeft disk.start.items (calls_of disk) t left };
+
+    ghost are_bytes = { λ disk i told. disk.are_bytes i };
+
+    ghost seen_now = { λ disk told. seen_left disk.start.items disk.written.items disk.bytes.items (length disk.bytes.items) disk.calls.items disk.within disk.replayed };
+
+    ghost left_now = { λ disk left told may. left_by_now disk.start.items (calls_of disk) left may };
+
+    ghost only_now = { λ disk left told was. only_by_now disk.start.items (calls_of disk) left was };
+
+    ghost since_earlier = { λ disk t u left told le was. left_earlier disk.start.items (calls_of disk) t u left le was };
+
+    fn size(&self) -> io::Result<u64> {
+        Ok(self.bytes.len() as u64)
+    }
+
+    fn read_whole_at(&self, at: u64, into: &mut [u8]) -> io::Result<()> {
+        let len = self.bytes.len() as u64;
+        if len < at || len - at < into.len() as u64 {
+            return Err(io::Error::from(ErrorKind::UnexpectedEof));
+        }
+        let at = at as usize;
+        into.copy_from_slice(&self.bytes[at..at + into.len()]);
+        Ok(())
+    }
+
+    fn write_some_at(&mut self, at: u64, bytes: &[u8]) -> io::Result<usize> {
+        match self.write_at(at, bytes) {
+            Ok(()) => Ok(bytes.len()),
+            Err(_) => Err(io::Error::from(ErrorKind::Other)),
+        }
+    }
+
+    fn write_again_at(&mut self, _at: u64, _byte: u8) -> io::Result<()> {
+        Ok(())
+    }
+
+    fn sync_data(&mut self) -> io::Result<()> {
+        match self.sync() {
+            Ok(()) => Ok(()),
+            Err(_) => Err(io::Error::from(ErrorKind::Other)),
+        }
     }
 }

@@ -302,6 +302,18 @@ impl Disk for StagedDisk {
         Err(LogError::WriteFault)
     }
 
+    // The byte is one that was handed in, and its write waits.
+    fn write_again(&mut self, at: u64) -> Result<(), LogError>
+        ensures kept { self.new.len ≡ self.old.len }
+        ensures only { IfErr result (λ e. (e ≡ ReadFault) ⊎ (e ≡ WriteFault)) }
+        ensures cause { HasCause (counts_of self.old) (counts_of self.new) result }
+        ensures reads { self.new.reads ≡ one_more self.old.reads }
+    {
+        let mut byte = [0];
+        self.read_at(at, &mut byte)?;
+        self.write_at(at, &byte)
+    }
+
     fn sync(&mut self) -> Result<(), LogError>
         ensures kept { self.new.len ≡ self.old.len }
         ensures only { IfErr result (λ e. e ≡ WriteFault) }

@@ -1,11 +1,13 @@
 //! A reader's steps: a gate, or a record.
 
-ghost use Rattle.std.specs.Prelude.{◌≡◌, ℕ, ◌+◌, ◌≤◌, ◌<◌, ◌^◌, ◌⊎◌, ◌&&◌, ◌||◌, ◌==◌, Bool, true, false, Some, None, List, [], ◌++◌, length, take, drop, IfOk, IfErr, OnOk, OnErr, IsErrOf};
+ghost use Rattle.std.specs.Prelude.{◌≡◌, ◌≢◌, ℕ, ◌+◌, ◌≤◌, ◌<◌, ◌^◌, ◌⊎◌, ◌&&◌, ◌||◌, ◌==◌, Bool, true, false, Some, None, List, [], ◌++◌, length, take, drop, IfOk, IfErr, OnOk, OnErr, IsErrOf};
 ghost use Rattle.std.specs.List.{AllByRecursion, list_all};
 ghost use Rattle.std.specs.VecDeque.{deque_len, deque_capacity};
 ghost use Rattle.sled_log.specs.Events.{Event};
 ghost use Rattle.sled_log.specs.Messages.{Entry};
-ghost use Rattle.sled_log.specs.declared.log.LogError.TheVariants.{Memory, ReadFault, Corruption};
+ghost use Rattle.sled_log.specs.Calls.{HasCause};
+ghost use Rattle.sled_log.specs.declared.log.LogError.TheVariants.{Memory, ReadFault, WriteFault, Corruption};
+ghost use Rattle.sled_disk.specs.Disk.{Only, LeavesTheSame};
 ghost use Rattle.sled_disk.specs.Format.{Describes};
 ghost use Rattle.sled_disk.specs.GoesOn.{GoesOn};
 ghost use Rattle.sled_disk.specs.Names.{moves_in, named_by};
@@ -86,6 +88,7 @@ impl Reader {
             end,
             at: 8,
             body_end: 8,
+            opened: 8,
             pages: Vec::new(alloc),
             names: Names::new(alloc),
             targets: Targets::new(alloc),
@@ -124,6 +127,7 @@ impl Reader {
         let Some(len) = body_on(&mut self.window, disk, self.at + 1, self.end)? else {
             return Err(LogError::Corruption);
         };
+        self.opened = self.at;
         self.at += 9;
         self.body_end = self.at + len;
         Ok(true)
@@ -196,6 +200,46 @@ impl Reader {
                 return Ok(self.at);
             }
         }
+    }
+
+    /// Reads all of the file on a disk, as `begin` and then `read` do. At an error nothing is kept.
+    pub(crate) fn read_whole<D: Disk>(alloc: Global, disk: &mut D) -> Result<Reader, LogError>
+        ensures goes_on { D.tells → IfOk result (λ reader. GoesOn (D.seen disk.new) reader) }
+        ensures corrupt { D.tells → IsErrOf result Corruption → (events : List (Event Entry))
+            → Describes (D.seen disk.old) events → ⊥ }
+        ensures only { IfErr result (λ e. (e ≡ Memory) ⊎ (e ≡ ReadFault) ⊎ (e ≡ Corruption)) }
+        ensures rests { Rests D.tells D.seen D.may_leave D.moment D.left_since disk.old disk.new }
+        ensures faults { ReadFaults (D.counts disk.old) (D.counts disk.new) result }
+    {
+        match Reader::begin(alloc, disk) {
+            Ok(mut reader) => match reader.read(disk) {
+                Ok(_) => Ok(reader),
+                Err(e) => Err(e),
+            },
+            Err(e) => Err(e),
+        }
+    }
+
+    /// Makes durable what was read: writes the byte of the last open gate again, and syncs the disk.
+    ///
+    /// Where a sync has failed a system may take what it couldn't write for durable: a read then shows the gate that was opened, the device
+    /// has the closed one, and a further sync has nothing to do. All else that was read was synced before a later gate was opened, so that
+    /// one byte is enough. No byte and no crash state changes but by what the sync makes durable.
+    ///
+    /// Memory: there was none for that write, and nothing was done. ReadFault: the byte couldn't be read. WriteFault: it couldn't be written,
+    /// or synced.
+    pub fn make_durable<D: Disk>(&self, disk: &mut D) -> Result<(), LogError>
+        ensures durable { D.tells → OnOk result (Only (D.seen disk.new) (D.may_leave disk.new)) }
+        ensures seen { D.tells → OnOk result (D.seen disk.new ≡ D.seen disk.old) }
+        ensures unsynced { D.tells
+            → IfErr result (λ e. e ≢ WriteFault → D.seen disk.new ≡ D.seen disk.old) }
+        ensures stays { LeavesTheSame D.tells D.may_leave D.moment D.left_since disk.old disk.new }
+        ensures only { IfErr result (λ e. (e ≡ Memory) ⊎ (e ≡ ReadFault) ⊎ (e ≡ WriteFault)) }
+        ensures cause { HasCause (D.counts disk.old) (D.counts disk.new) result }
+    {
+        disk.make_room(1)?;
+        disk.write_again(self.opened)?;
+        disk.sync()
     }
 
     /// The pages that were read, by the heads of their chains, and all messages of pages.

@@ -79,6 +79,10 @@ impl Disk for KeepingDisk {
         Ok(())
     }
 
+    fn write_again(&mut self, at: u64) -> Result<(), LogError> {
+        self.inner.write_again(at)
+    }
+
     fn sync(&mut self) -> Result<(), LogError> {
         self.inner.sync()
     }

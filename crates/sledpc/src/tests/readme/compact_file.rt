@@ -1,10 +1,10 @@
 use sled_pagecache::{Config, Device, DiskLog, Error, FileDisk, PageCache};
-use std::alloc::Global;
+use std::alloc::{Alloc, Global};
 use std::fs::{File, Files, OpenFile};
 
 // Writes the pages of a cache to a new file of the folder, puts that in the place of the cache's own, and answers a cache over it. At an
 // error the cache is let go, and what stands at the path is the old file or the new one, with the same pages: it is opened again.
-fn compact_file<H: Files<File = File>>(
+fn compact_file<H: Files<File = File> + Alloc>(
     files: &H,
     alloc: Global,
     config: Config,

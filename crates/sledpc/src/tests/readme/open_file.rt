@@ -1,9 +1,9 @@
 use sled_pagecache::{Config, Disk, DiskLog, Error, FileDisk, PageCache};
-use std::alloc::Global;
+use std::alloc::{Alloc, Global};
 use std::fs::{File, Files};
 
 // The cache over the log in a file, which is made where it is absent or empty.
-pub fn open_file<H: Files<File = File>>(
+pub fn open_file<H: Files<File = File> + Alloc>(
     files: &H,
     alloc: Global,
     path: &str,
