@@ -1,6 +1,6 @@
 //! A disk whose caller does the reading and writing.
 
-ghost use Rattle.std.specs.Prelude.{◌≡◌, ◌≤◌, ◌<◌, ◌+◌, ◌^◌, ◌⊎◌, ℕ, List, [], false, length, max, IfOk, IfErr, IfSome, IfNone, OnOk, OnErr, IsOk, IsTrue};
+ghost use Rattle.std.specs.Prelude.{◌≡◌, ◌≤◌, ◌<◌, ◌+◌, ◌^◌, ◌⊎◌, ◌++◌, ℕ, List, [], ◌∷◌, None, false, true, length, max, IfOk, IfErr, IfSome, IfNone, OnOk, OnErr, IsOk, IsTrue};
 ghost use Rattle.sled_log.specs.Calls.{Counts, HasCause, one_more};
 ghost use Rattle.sled_log.specs.declared.log.LogError.TheVariants.{Memory, ReadFault, WriteFault};
 
@@ -107,8 +107,7 @@ impl StagedDisk {
     /// Lets go of what was handed in, and of what was needed.
     pub fn forget(&self) {
         if let Ok(mut stage) = self.stage.try_borrow_mut() {
-            stage.pieces.clear();
-            stage.needs = None;
+            stage.forget();
         }
     }
 
@@ -116,8 +115,7 @@ impl StagedDisk {
     /// found by opening the file again over a new disk; reads go on, and the length counts what was written and then lost.
     pub fn fail(&self) {
         if let Ok(mut stage) = self.stage.try_borrow_mut() {
-            stage.tasks.clear();
-            stage.failed = true;
+            stage.fail();
         }
     }
 
@@ -135,17 +133,22 @@ impl StagedDisk {
 impl Stage {
     ghost use Rattle.sled_disk.specs.Disk.{overlaid};
     ghost use Rattle.sled_disk.specs.HandedIn.{StandsAt, ArePieces, AreWithin, after_task, seen_in};
-    ghost use Rattle.sled_disk.specs.Staged.{tasks_in};
+    ghost use Rattle.sled_disk.specs.Journal.{Write, Sync};
+    ghost use Rattle.sled_disk.specs.Staged.{tasks_in, IsHandedOut};
 
     // Hands out the next task.
     fn next(&mut self, into: &mut [u8]) -> Option<Task>
+        ensures next { IfSome result (λ task. IsHandedOut task into.new (tasks_in self.old.tasks)
+            (tasks_in self.new.tasks)) }
         ensures within { (file : List ℕ) → AreWithin file (tasks_in self.old.tasks) → IfSome result
             (λ task. AreWithin (after_task file task into.new) (tasks_in self.new.tasks)) }
         ensures seen { (file : List ℕ) → AreWithin file (tasks_in self.old.tasks) → IfSome result
             (λ task. seen_in (after_task file task into.new) self.new.tasks
             ≡ seen_in file self.old.tasks) }
         ensures none { IfNone result (tasks_in self.old.tasks ≡ []) }
-        ensures pieces { self.new.pieces ≡ self.old.pieces }
+        ensures same { IfNone result (tasks_in self.new.tasks ≡ []) }
+        ensures is_synced { self.new.tasks.is_synced ≡ self.old.tasks.is_synced }
+        ensures kept { self.new ≡ record self.old { tasks = self.new.tasks } }
     {
         self.tasks.next(into)
     }
@@ -156,7 +159,7 @@ impl Stage {
         ensures pieces { (file : List ℕ) → AreWithin file (tasks_in self.old.tasks)
             → StandsAt at bytes.now file → ArePieces self.old.pieces (seen_in file self.old.tasks)
             → ArePieces self.new.pieces (seen_in file self.old.tasks) }
-        ensures tasks { self.new.tasks ≡ self.old.tasks }
+        ensures kept { self.new ≡ record self.old { pieces = self.new.pieces; needs = self.new.needs } }
     {
         let end = at + bytes.len() as u64;
         if bytes.is_empty() || self.tasks.may_change(at, end) {
@@ -173,7 +176,7 @@ impl Stage {
         ensures length { length into.new ≡ length into.old }
         ensures bytes { (seen : List ℕ) → ArePieces self.old.pieces seen → IsTrue result
             → StandsAt at into.new seen }
-        ensures kept { (self.new.pieces ≡ self.old.pieces) × (self.new.tasks ≡ self.old.tasks) }
+        ensures kept { self.new ≡ record self.old { needs = self.new.needs } }
     {
         if self.pieces.read(at, into) {
             return true;
@@ -185,6 +188,11 @@ impl Stage {
     // Lets a write wait, and drops the pieces that it writes over.
     fn write(&mut self, at: u64, bytes: &[u8]) -> bool
         requires { at + length bytes.now < 2 ^ 64 }
+        ensures works { IsTrue result → self.old.failed ≡ false }
+        ensures added { IsTrue result → 0 < length bytes.now
+            → tasks_in self.new.tasks ≡ tasks_in self.old.tasks ++ Write at bytes.now ∷ [] }
+        ensures unsynced { IsTrue result → 0 < length bytes.now → self.new.tasks.is_synced ≡ false }
+        ensures empty { length bytes.now ≡ 0 → self.new.tasks ≡ self.old.tasks }
         ensures written { (file : List ℕ) → IsTrue result → seen_in file self.new.tasks
             ≡ overlaid (seen_in file self.old.tasks) at bytes.now }
         ensures within { (file : List ℕ) → IsTrue result → AreWithin file (tasks_in self.old.tasks)
@@ -192,7 +200,9 @@ impl Stage {
         ensures pieces { (seen : List ℕ) → at ≤ length seen → ArePieces self.old.pieces seen
             → IsTrue result → ArePieces self.new.pieces (overlaid seen at bytes.now) }
         ensures refused { result ≡ false → tasks_in self.new.tasks ≡ tasks_in self.old.tasks }
-        ensures kept { result ≡ false → self.new.pieces ≡ self.old.pieces }
+        ensures still { result ≡ false → self.new.tasks.is_synced ≡ self.old.tasks.is_synced }
+        ensures kept { result ≡ false → self.new ≡ record self.old { tasks = self.new.tasks } }
+        ensures failed { self.new.failed ≡ self.old.failed }
     {
         if self.failed || self.tasks.write(at, bytes).is_err() {
             return false;
@@ -201,12 +211,40 @@ impl Stage {
         true
     }
 
+    // Lets go of what was handed in, and of what was needed.
+    fn forget(&mut self)
+        ensures pieces { (file : List ℕ) → ArePieces self.new.pieces file }
+        ensures needs { self.new.needs ≡ None }
+        ensures kept { self.new ≡ record self.old { pieces = self.new.pieces; needs = self.new.needs } }
+    {
+        self.pieces.clear();
+        self.needs = None;
+    }
+
+    // Lets nothing wait any more, and nothing wait later.
+    fn fail(&mut self)
+        ensures none { tasks_in self.new.tasks ≡ [] }
+        ensures failed { self.new.failed ≡ true }
+        ensures kept { self.new
+            ≡ record self.old { tasks = self.new.tasks; failed = self.new.failed } }
+    {
+        self.tasks.clear();
+        self.failed = true;
+    }
+
     // Lets a sync wait, where one is due.
     fn sync(&mut self) -> bool
+        ensures works { IsTrue result → self.old.failed ≡ false }
+        ensures added { IsTrue result → self.old.tasks.is_synced ≡ false
+            → tasks_in self.new.tasks ≡ tasks_in self.old.tasks ++ Sync ∷ [] }
+        ensures same { IsTrue result → self.old.tasks.is_synced ≡ true
+            → tasks_in self.new.tasks ≡ tasks_in self.old.tasks }
+        ensures is_synced { IsTrue result → self.new.tasks.is_synced ≡ true }
+        ensures refused { result ≡ false → self.new ≡ self.old }
         ensures seen { (file : List ℕ) → seen_in file self.new.tasks ≡ seen_in file self.old.tasks }
         ensures within { (file : List ℕ) → AreWithin file (tasks_in self.old.tasks)
             → AreWithin file (tasks_in self.new.tasks) }
-        ensures pieces { self.new.pieces ≡ self.old.pieces }
+        ensures kept { self.new ≡ record self.old { tasks = self.new.tasks } }
     {
         if self.failed {
             return false;
