@@ -1,21 +1,26 @@
 -- Opening a cache over a file, and what the program asks of the file's disk.
-use Rattle.std.specs.Prelude.{◌≡◌, ◌≢◌, ◌⊎◌, ℕ, ⊤, false, Option, None, Some}
+use Rattle.std.specs.Prelude.{◌≡◌, ◌≢◌, ◌⊎◌, ℕ, ⊤, Bool, true, false, List, Option, None, Some}
 use Rattle.sled_base.specs.declared.types.Error.{Error}
 use Rattle.sled_base.specs.declared.types.Error.TheVariants.{Unsupported}
 use Rattle.sled_base.specs.declared.types.Why.{Why}
 use Rattle.sled_log.specs.declared.log.Log.{Ghosts}
+use Rattle.sled_disk.specs.HandedIn.{TakesIn}
+use Rattle.sled_disk.specs.Served.{OnlyDisk}
+use Rattle.sled_disk.specs.Staged.{HandsOut, failed}
+use Rattle.sled_disk.specs.declared.disk.staged.StagedDisk.{StagedDisk}
 use Rattle.sled_disk.specs.declared.disk.staged.tasks.Task.{Task}
 use Rattle.sled_disk.specs.declared.disk.staged.tasks.Task.TheVariants.{Write, Sync}
 use Rattle.sled_pagecache.specs.Cache.{Cache}
 use Rattle.sled_pagecache.specs.Opening.{fault_of}
 use Rattle.sled_pagecache.specs.declared.pagecache.handles.config.Config.{Config}
-use Rattle.sled_c.specs.Handles.{FileLog}
+use Rattle.sled_c.specs.Handles.{FileLog, IsBut}
 use Rattle.sled_c.specs.Numbers as number
 use Rattle.sled_c.specs.Numbers.{number_of_error}
 use Rattle.sled_c.specs.declared.exports.file.FileSettings.{FileSettings}
 use Rattle.sled_c.specs.declared.exports.device.FileTask.{FileTask}
 use Rattle.sled_c.specs.declared.opening.Opening.{Opening}
-use Rattle.sled_c.specs.declared.opening.Step.TheVariants.{Read}
+use Rattle.sled_c.specs.declared.opening.Step.{Step}
+use Rattle.sled_c.specs.declared.opening.Step.TheVariants.{Unread, Reading, Unsynced, Read}
 use Rattle.sled_c.specs.declared.opening.read_log.ReadLog.{ReadLog}
 use Rattle.sled_c.specs.declared.store.Store.{Store}
 use Rattle.sled_c.specs.declared.store.Store.TheVariants.{Memory, File, Begun}
@@ -118,20 +123,73 @@ told_task (Some Sync) = record { kind = 2; at = 0; len = 0 }
 abbrev pub IsTask : FileTask → Type 0
 IsTask told = (task : Option Task) × (told ≡ told_task task)
 
--- What is asked of a file is told, or that a write failed, and its handle stays as it is. A cache in memory has none, and nothing to tell
--- of it.
-abbrev pub Asks : Option Store → Option Store → ℕ → Type 0 → Type 0 → Type 0 → Type 0
+-- The step of an opening is the same but for its disk, of which this holds.
+abbrev pub StepIsBut : (StagedDisk → StagedDisk → Type 0) → Option Step → Option Step → Type 0
+StepIsBut holds None new = new ≡ None
+StepIsBut holds (Some (Unread old)) (Some (Unread new)) = holds old new
+StepIsBut holds (Some (Reading reader old)) (Some (Reading same new)) = (same ≡ reader) × holds old new
+StepIsBut holds (Some (Unsynced reader old)) (Some (Unsynced same new)) = (same ≡ reader) × holds old new
+StepIsBut holds (Some (Read old)) (Some (Read new)) = OnlyDisk holds old.log new.log
+StepIsBut holds old new = ⊥
+
+abbrev pub OpeningIsBut : (StagedDisk → StagedDisk → Type 0) → Opening → Opening → Type 0
+OpeningIsBut holds old new = (new ≡ record old { step = new.step }) × StepIsBut holds old.step new.step
+
+-- The store is the same but for the disk of its file, of which this holds.
+abbrev pub StoreIsBut : (StagedDisk → StagedDisk → Type 0) → Store → Store → Type 0
+StoreIsBut holds (Memory old) new = new ≡ Memory old
+StoreIsBut holds (File old) (File new) = IsBut holds old new
+StoreIsBut holds (Begun old) (Begun new) = OpeningIsBut holds old new
+StoreIsBut holds old new = ⊥
+
+-- whether a write or a sync of the file failed
+abbrev pub failed_at : Option Step → Bool
+failed_at None = false
+failed_at (Some (Unread disk)) = failed disk
+failed_at (Some (Reading reader disk)) = failed disk
+failed_at (Some (Unsynced reader disk)) = failed disk
+failed_at (Some (Read read)) = failed read.log.disk
+
+abbrev pub failed_in : Store → Bool
+failed_in (Memory cache) = false
+failed_in (File cache) = failed cache.log.disk
+failed_in (Begun opening) = failed_at opening.step
+
+-- the bytes of the file that are needed: their place, and how many
+abbrev pub needed_in : Store → Option (ℕ × ℕ)
+needed_in (Memory cache) = None
+needed_in (File cache) = cache.log.disk.stage.needs
+needed_in (Begun opening) = opening.needs
+
+-- both are 0 where none are
+abbrev pub TellsNeeds : Option (ℕ × ℕ) → ℕ → ℕ → Type 0
+TellsNeeds None at len = (at ≡ 0) × (len ≡ 0)
+TellsNeeds (Some needed) at len = (at ≡ needed.0) × (len ≡ needed.1)
+
+-- A task of the file is told that was handed out, or that none waits.
+abbrev pub HandsTask : FileTask → List ℕ → Store → Store → Type 0
+HandsTask told buffer old new = (task : Option Task) × (told ≡ told_task task) × StoreIsBut (HandsOut task buffer) old new
+
+-- What is asked of a file is told, or that a write or a sync of it failed, and then all stays. A cache in memory has none, and nothing to
+-- tell of it.
+abbrev pub Asks : Option Store → Option Store → ℕ → Type 0 → Type 0 → (Store → Store → Type 0) → Type 0
 Asks None new status stays nothing told = (new ≡ None) × (status ≡ number.closed) × stays
 Asks (Some (Memory old)) new status stays nothing told = (new ≡ Some (Memory old)) × (status ≡ number.ok) × nothing
-Asks (Some old) new status stays nothing told = (new ≡ Some old) × (((status ≡ number.ok) × told) ⊎ ((status ≡ number.write) × stays))
+Asks (Some old) (Some new) status stays nothing told =
+    ((failed_in old ≡ true) × (status ≡ number.write) × (new ≡ old) × stays) ⊎ ((failed_in old ≡ false) × (status ≡ number.ok) × told old new)
+Asks (Some old) None status stays nothing told = ⊥
 
--- The disk of the file is told something, and the handle stays as it is.
-abbrev pub Tells : Option Store → Option Store → ℕ → Type 0
-Tells None new status = (new ≡ None) × (status ≡ number.closed)
-Tells (Some old) new status = (new ≡ Some old) × (status ≡ number.ok)
+-- The disk of the file is told something, of which this holds then. Nothing else changes.
+abbrev pub Tells : (StagedDisk → StagedDisk → Type 0) → Option Store → Option Store → ℕ → Type 0
+Tells holds None new status = (new ≡ None) × (status ≡ number.closed)
+Tells holds (Some old) (Some new) status = (status ≡ number.ok) × StoreIsBut holds old new
+Tells holds (Some old) None status = ⊥
 
--- Bytes of the file are handed in, likewise: there may be no memory for them, or a write may have failed.
-abbrev pub HandsIn : Option Store → Option Store → ℕ → Type 0
-HandsIn None new status = (new ≡ None) × (status ≡ number.closed)
-HandsIn (Some (Memory old)) new status = (new ≡ Some (Memory old)) × (status ≡ number.ok)
-HandsIn (Some old) new status = (new ≡ Some old) × ((status ≡ number.ok) ⊎ (status ≡ number.memory) ⊎ (status ≡ number.write))
+-- Bytes of the file are handed in at a place, likewise: there may be no memory for them, or a write or a sync may have failed.
+abbrev pub HandsIn : ℕ → List ℕ → Option Store → Option Store → ℕ → Type 0
+HandsIn at bytes None new status = (new ≡ None) × (status ≡ number.closed)
+HandsIn at bytes (Some (Memory old)) new status = (new ≡ Some (Memory old)) × (status ≡ number.ok)
+HandsIn at bytes (Some old) (Some new) status =
+    ((failed_in old ≡ true) × (status ≡ number.write) × (new ≡ old))
+    ⊎ ((failed_in old ≡ false) × ((status ≡ number.ok) ⊎ (status ≡ number.memory)) × StoreIsBut (TakesIn at bytes) old new)
+HandsIn at bytes (Some old) None status = ⊥

@@ -12,6 +12,7 @@ use sled_pagecache::{Config, Disk, Error, Log, PageCache};
 use std::alloc::Global;
 
 mod read_log;
+mod served;
 
 /// A log in a file that the program reads and writes.
 pub type FileLog = DiskLog<StagedDisk>;
@@ -71,27 +72,10 @@ impl Opening {
         })
     }
 
-    /// The disk of the file.
-    pub fn disk(&self) -> Option<&StagedDisk> {
-        match &self.step {
-            Some(Step::Unread(disk)) => Some(disk),
-            Some(Step::Reading(_, disk)) => Some(disk),
-            Some(Step::Unsynced(_, disk)) => Some(disk),
-            Some(Step::Read(read)) => Some(read.log.disk()),
-            None => None,
-        }
-    }
-
-    // Whether a write or a sync failed.
-    fn has_failed(&self) -> bool {
-        match self.disk() {
-            Some(disk) => disk.has_failed(),
-            None => true,
-        }
-    }
-
     /// The bytes that are needed to go on: their place, and how many.
-    pub fn needs(&self) -> Option<(u64, usize)> {
+    pub fn needs(&self) -> Option<(u64, usize)>
+        ensures { result ≡ self.now.needs }
+    {
         self.needs
     }
 
@@ -238,8 +222,8 @@ impl Opening {
         ensures config { self.new.config ≡ self.old.config }
     {
         match PageCache::start(alloc, self.config, read.log) {
-            Ok(cache) => {
-                cache.log().disk().forget();
+            Ok(mut cache) => {
+                cache.forget();
                 Ok(Some(cache))
             }
             Err((error, log)) => {

@@ -1,9 +1,10 @@
 -- Pieces of a file that were handed in, and what a read is to give.
-use Rattle.std.specs.Prelude.{◌≡◌, ◌⊎◌, ◌≤◌, ◌<◌, ◌+◌, ⊤, ℕ, Bool, nat_le, ◌||◌, List, [], ◌∷◌, length, take, get_or}
+use Rattle.std.specs.Prelude.{◌≡◌, ◌⊎◌, ◌≤◌, ◌<◌, ◌+◌, ⊤, ℕ, Bool, nat_le, ◌||◌, List, [], ◌∷◌, None, length, take, get_or}
 use Rattle.std.specs.List.{All}
 use Rattle.sled_disk.specs.Disk.{overlaid}
 use Rattle.sled_disk.specs.Journal.{DiskCall, Write, Sync}
-use Rattle.sled_disk.specs.Staged.{tasks_in}
+use Rattle.sled_disk.specs.Staged.{IsFed, tasks_in, waiting}
+use Rattle.sled_disk.specs.declared.disk.staged.StagedDisk.{StagedDisk}
 use Rattle.sled_disk.specs.declared.disk.staged.pieces.Piece.{Piece}
 use Rattle.sled_disk.specs.declared.disk.staged.pieces.Pieces.{Pieces}
 use Rattle.sled_disk.specs.declared.disk.staged.tasks.Task.{Task}
@@ -51,3 +52,15 @@ AreWithin file (Sync ∷ later) = AreWithin file later
 abbrev pub LeavesBetween : ℕ → ℕ → DiskCall → Type 0
 LeavesBetween from to (Write at bytes) = (at + length bytes ≤ from) ⊎ (to ≤ at)
 LeavesBetween from to Sync = ⊤
+
+-- Bytes of a file were handed in at a place: where all pieces stood in it, they do so with these. The disk is the same but for that.
+pub record TakesIn (at : ℕ) (bytes : List ℕ) (old new : StagedDisk) : Type 0 where
+  pub fed : IsFed old new
+  pub pieces : (file : List ℕ) → AreWithin file (waiting old) → StandsAt at bytes file
+      → ArePieces old.stage.pieces (seen_in file old.stage.tasks) → ArePieces new.stage.pieces (seen_in file old.stage.tasks)
+
+-- All pieces were let go, and what was needed. The disk is the same but for that.
+pub record Forgets (old new : StagedDisk) : Type 0 where
+  pub fed : IsFed old new
+  pub pieces : new.stage.pieces.pieces.items ≡ []
+  pub needs : new.stage.needs ≡ None

@@ -18,6 +18,7 @@ pub mod Journal
 pub mod DiskMemory
 pub mod Staged
 pub mod HandedIn
+pub mod Served
 pub mod JournalLaws
 pub mod RecordLaws
 pub mod EncodingLaws

@@ -34,6 +34,7 @@ use std::alloc::Global;
 
 mod calls;
 mod finding;
+mod served;
 
 // the opening bytes and a closed gate
 const EMPTY: [u8; 9] = [0x53, 0x4c, 0x50, 0x43, 0x4c, 0x4f, 0x47, 0x31, 0];

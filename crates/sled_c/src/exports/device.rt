@@ -1,13 +1,13 @@
 //! What the program reads and writes for a cache over a file.
 
-ghost use Rattle.std.specs.Prelude.{◌≡◌, ◌⊎◌, ⊤, Some};
-ghost use Rattle.sled_c.specs.Files.{Asks, HandsIn, IsTask, Tells, nothing_to_do, told_task};
-ghost use Rattle.sled_c.specs.Numbers as number;
+ghost use Rattle.std.specs.Prelude.{◌≡◌};
+ghost use Rattle.sled_disk.specs.HandedIn.{Forgets};
+ghost use Rattle.sled_disk.specs.Staged.{Fails};
+ghost use Rattle.sled_c.specs.Files.{Asks, HandsIn, HandsTask, Tells, TellsNeeds, needed_in, nothing_to_do, told_task};
 
 use crate::handle::Handle;
 use crate::status::{CLOSED, MEMORY, OK, WRITE};
-use crate::store::Store;
-use sled_disk::{StagedDisk, Task};
+use sled_disk::Task;
 use std::alloc::Global;
 
 /// What the program does next to the file.
@@ -32,32 +32,20 @@ pub extern "C" fn dilluvas_raw_next_task(
 ) -> u32
     ensures { Asks handle.old.store handle.new.store result
         ((task.new ≡ task.old) × (buffer.new ≡ buffer.old))
-        ((task.new ≡ nothing_to_do) × (buffer.new ≡ buffer.old)) (IsTask task.new) }
+        ((task.new ≡ nothing_to_do) × (buffer.new ≡ buffer.old))
+        (λ old new. HandsTask task.new buffer.new old new) }
 {
-    let Some(store) = handle.take(alloc) else {
+    let Some(mut store) = handle.take(alloc) else {
         return CLOSED;
     };
-    let status = match store.disk() {
-        Some(disk) => put_task(disk, task, buffer),
-        None => {
-            *task = task_of(None);
-            OK
-        }
+    let status = if store.has_failed() {
+        WRITE
+    } else {
+        *task = task_of(store.next_task(buffer));
+        OK
     };
     handle.put(alloc, store);
     status
-}
-
-// Writes the next task of a disk, unless a write or a sync failed.
-fn put_task(disk: &StagedDisk, task: &mut FileTask, buffer: &mut [u8]) -> u32
-    ensures { ((result ≡ number.ok) × IsTask task.new) ⊎ ((result ≡ number.write)
-        × (task.new ≡ task.old) × (buffer.new ≡ buffer.old)) }
-{
-    if disk.has_failed() {
-        return WRITE;
-    }
-    *task = task_of(disk.next_task(buffer));
-    OK
 }
 
 // A task as the program reads it.
@@ -88,28 +76,20 @@ pub extern "C" fn dilluvas_raw_needs(
     len: &mut usize,
 ) -> u32
     ensures { Asks handle.old.store handle.new.store result
-        ((at.new ≡ at.old) × (len.new ≡ len.old)) ((at.new ≡ 0) × (len.new ≡ 0)) ⊤ }
+        ((at.new ≡ at.old) × (len.new ≡ len.old)) ((at.new ≡ 0) × (len.new ≡ 0))
+        (λ old new. (new ≡ old) × TellsNeeds (needed_in old) at.new len.new) }
 {
     let Some(store) = handle.take(alloc) else {
         return CLOSED;
     };
-    let status = put_needs(&store, at, len);
+    let status = if store.has_failed() {
+        WRITE
+    } else {
+        (*at, *len) = store.needs().unwrap_or((0, 0));
+        OK
+    };
     handle.put(alloc, store);
     status
-}
-
-// Writes which bytes are needed, unless a write or a sync failed.
-fn put_needs(store: &Store, at: &mut u64, len: &mut usize) -> u32
-    ensures { Asks (Some store.now) (Some store.now) result
-        ((at.new ≡ at.old) × (len.new ≡ len.old)) ((at.new ≡ 0) × (len.new ≡ 0)) ⊤ }
-{
-    if let Some(disk) = store.disk()
-        && disk.has_failed()
-    {
-        return WRITE;
-    }
-    (*at, *len) = store.needs().unwrap_or((0, 0));
-    OK
 }
 
 /// Hands in bytes of the file, from a place on.
@@ -120,43 +100,32 @@ pub extern "C" fn dilluvas_raw_hand_in(
     at: u64,
     bytes: &[u8],
 ) -> u32
-    ensures { HandsIn handle.old.store handle.new.store result }
+    ensures { HandsIn at bytes.now handle.old.store handle.new.store result }
 {
-    let Some(store) = handle.take(alloc) else {
+    let Some(mut store) = handle.take(alloc) else {
         return CLOSED;
     };
-    let status = match store.disk() {
-        Some(disk) => hand_in(disk, at, bytes),
-        None => OK,
+    let status = if store.has_failed() {
+        WRITE
+    } else {
+        match store.hand_in(at, bytes) {
+            Ok(()) => OK,
+            Err(_) => MEMORY,
+        }
     };
     handle.put(alloc, store);
     status
 }
 
-// Hands bytes to a disk, unless a write or a sync failed.
-fn hand_in(disk: &StagedDisk, at: u64, bytes: &[u8]) -> u32
-    ensures { (result ≡ number.ok) ⊎ (result ≡ number.memory) ⊎ (result ≡ number.write) }
-{
-    if disk.has_failed() {
-        return WRITE;
-    }
-    match disk.hand_in(at, bytes) {
-        Ok(()) => OK,
-        Err(_) => MEMORY,
-    }
-}
-
 /// The bytes that are needed couldn't be read: they aren't any more, and what was handed in is let go.
 #[unsafe(no_mangle)]
 pub extern "C" fn dilluvas_raw_forget(alloc: Global, handle: &mut Handle) -> u32
-    ensures { Tells handle.old.store handle.new.store result }
+    ensures { Tells Forgets handle.old.store handle.new.store result }
 {
-    let Some(store) = handle.take(alloc) else {
+    let Some(mut store) = handle.take(alloc) else {
         return CLOSED;
     };
-    if let Some(disk) = store.disk() {
-        disk.forget();
-    }
+    store.forget();
     handle.put(alloc, store);
     OK
 }
@@ -164,14 +133,12 @@ pub extern "C" fn dilluvas_raw_forget(alloc: Global, handle: &mut Handle) -> u32
 /// A write or a sync failed: every later call over the file answers so.
 #[unsafe(no_mangle)]
 pub extern "C" fn dilluvas_raw_failed(alloc: Global, handle: &mut Handle) -> u32
-    ensures { Tells handle.old.store handle.new.store result }
+    ensures { Tells Fails handle.old.store handle.new.store result }
 {
-    let Some(store) = handle.take(alloc) else {
+    let Some(mut store) = handle.take(alloc) else {
         return CLOSED;
     };
-    if let Some(disk) = store.disk() {
-        disk.fail();
-    }
+    store.fail();
     handle.put(alloc, store);
     OK
 }

@@ -1,29 +1,19 @@
 //! A disk whose caller does the reading and writing.
 
-ghost use Rattle.std.specs.Prelude.{◌≡◌, ◌≤◌, ◌<◌, ◌+◌, ◌^◌, ◌⊎◌, ◌++◌, ℕ, List, [], ◌∷◌, None, false, true, length, max, IfOk, IfErr, IfSome, IfNone, OnOk, OnErr, IsOk, IsTrue};
+ghost use Rattle.std.specs.Prelude.{◌≡◌, ◌≤◌, ◌<◌, ◌+◌, ◌^◌, ◌⊎◌, ◌++◌, ℕ, List, [], ◌∷◌, None, false, true, length, max, IfOk, IfErr, OnOk, OnErr, IsOk};
 ghost use Rattle.sled_log.specs.Calls.{Counts, HasCause, one_more};
 ghost use Rattle.sled_log.specs.declared.log.LogError.TheVariants.{Memory, ReadFault, WriteFault};
 
 use super::Disk;
 use super::journal::count;
-use pieces::Pieces;
 use sled_log::LogError;
+use stage::Stage;
 use std::alloc::{AllocError, Global};
-use std::cell::RefCell;
 pub use tasks::Task;
-use tasks::Tasks;
 
 mod pieces;
+mod stage;
 mod tasks;
-
-// What waits, and what was handed in. The cache lends its log by `&`, so the caller reaches it through a cell.
-#[derive(Drop)]
-struct Stage {
-    tasks: Tasks,
-    pieces: Pieces,
-    needs: Option<(u64, usize)>,
-    failed: bool,
-}
 
 /// A disk that does no reading and writing of its own: its caller does both, between the calls of what stands on it.
 ///
@@ -39,7 +29,7 @@ struct Stage {
 /// and is a WriteFault where there is none; nothing of it waits then, and the disk goes on. A sync takes no memory.
 #[derive(Drop)]
 pub struct StagedDisk {
-    stage: RefCell<Stage>,
+    stage: Stage,
     len: u64,
     reads: u64,
     failed_reads: u64,
@@ -47,20 +37,21 @@ pub struct StagedDisk {
 }
 
 impl StagedDisk {
+    ghost use Rattle.sled_disk.specs.HandedIn.{Forgets, TakesIn};
+    ghost use Rattle.sled_disk.specs.Staged.{waiting, synced, failed, StillWaits, HandsOut, Fails};
+
     /// The disk of a file that has so many bytes. It takes no memory. What the file holds is not known to be durable, so the first sync
     /// is a task too.
     pub fn new(alloc: Global, len: u64) -> StagedDisk
         ensures counts { ⟦<Self as Disk>⟧.counts result
             ≡ record { reads = 0; failed_reads = 0; write_faults = 0 } }
         ensures len { result.len ≡ len }
+        ensures none { waiting result ≡ [] }
+        ensures unsynced { synced result ≡ false }
+        ensures works { failed result ≡ false }
     {
         StagedDisk {
-            stage: RefCell::new(Stage {
-                tasks: Tasks::new(alloc),
-                pieces: Pieces::new(alloc),
-                needs: None,
-                failed: false,
-            }),
+            stage: Stage::new(alloc),
             len,
             reads: 0,
             failed_reads: 0,
@@ -72,20 +63,18 @@ impl StagedDisk {
     ///
     /// The bytes of a write are put to the front of the buffer, as far as it has room, and the rest comes as a further write. Into a
     /// buffer of no bytes a write comes as one of none, and waits as before.
-    pub fn next_task(&self, into: &mut [u8]) -> Option<Task> {
-        match self.stage.try_borrow_mut() {
-            Ok(mut stage) => stage.next(into),
-            Err(_) => None,
-        }
+    pub fn next_task(&mut self, into: &mut [u8]) -> Option<Task>
+        ensures next { HandsOut result into.new self.old self.new }
+    {
+        self.stage.next(into)
     }
 
     /// What the last read wanted whose bytes weren't handed in: their place, and how many. It is `None` again once bytes are handed in
     /// and kept, after `forget`, and after a read outside of the file, which no bytes would help.
-    pub fn needs(&self) -> Option<(u64, usize)> {
-        match self.stage.try_borrow() {
-            Ok(stage) => stage.needs,
-            Err(_) => None,
-        }
+    pub fn needs(&self) -> Option<(u64, usize)>
+        ensures { result ≡ self.now.stage.needs }
+    {
+        self.stage.needs
     }
 
     /// Hands in bytes of the file from a place on, as they are once all tasks are done that were handed out. A copy of them is kept until
@@ -95,167 +84,42 @@ impl StagedDisk {
     /// these, since the write may change it: the caller works off what waits first.
     ///
     /// AllocError: there was no memory for the copy, and nothing changed.
-    pub fn hand_in(&self, at: u64, bytes: &[u8]) -> Result<(), AllocError> {
+    pub fn hand_in(&mut self, at: u64, bytes: &[u8]) -> Result<(), AllocError>
+        ensures taken { TakesIn at bytes.now self.old self.new }
+        ensures waits { StillWaits self.old self.new }
+    {
         let behind = self.len.saturating_sub(at);
         let len = behind.min(bytes.len() as u64) as usize;
-        let Ok(mut stage) = self.stage.try_borrow_mut() else {
-            return Err(AllocError);
-        };
-        stage.take_in(at, &bytes[..len])
+        self.stage.take_in(at, &bytes[..len])
     }
 
     /// Lets go of what was handed in, and of what was needed.
-    pub fn forget(&self) {
-        if let Ok(mut stage) = self.stage.try_borrow_mut() {
-            stage.forget();
-        }
+    pub fn forget(&mut self)
+        ensures forgets { Forgets self.old self.new }
+        ensures waits { StillWaits self.old self.new }
+    {
+        self.stage.forget();
     }
 
     /// A write or a sync of the caller failed. Nothing waits any more, and each later write and sync is a WriteFault. What is durable is
     /// found by opening the file again over a new disk; reads go on, and the length counts what was written and then lost.
-    pub fn fail(&self) {
-        if let Ok(mut stage) = self.stage.try_borrow_mut() {
-            stage.fail();
-        }
+    pub fn fail(&mut self)
+        ensures fails { Fails self.old self.new }
+    {
+        self.stage.fail();
     }
 
     /// Whether a write or a sync of the caller failed.
-    pub fn has_failed(&self) -> bool {
-        match self.stage.try_borrow() {
-            Ok(stage) => stage.failed,
-            Err(_) => true,
-        }
-    }
-}
-
-// In these contracts `file` is what the file holds once all is done that was handed out, and `seen` what a read is to give: the file
-// once all that waits is done too.
-impl Stage {
-    ghost use Rattle.sled_disk.specs.Disk.{overlaid};
-    ghost use Rattle.sled_disk.specs.HandedIn.{StandsAt, ArePieces, AreWithin, after_task, seen_in};
-    ghost use Rattle.sled_disk.specs.Journal.{Write, Sync};
-    ghost use Rattle.sled_disk.specs.Staged.{tasks_in, IsHandedOut};
-
-    // Hands out the next task.
-    fn next(&mut self, into: &mut [u8]) -> Option<Task>
-        ensures next { IfSome result (λ task. IsHandedOut task into.new (tasks_in self.old.tasks)
-            (tasks_in self.new.tasks)) }
-        ensures within { (file : List ℕ) → AreWithin file (tasks_in self.old.tasks) → IfSome result
-            (λ task. AreWithin (after_task file task into.new) (tasks_in self.new.tasks)) }
-        ensures seen { (file : List ℕ) → AreWithin file (tasks_in self.old.tasks) → IfSome result
-            (λ task. seen_in (after_task file task into.new) self.new.tasks
-            ≡ seen_in file self.old.tasks) }
-        ensures none { IfNone result (tasks_in self.old.tasks ≡ []) }
-        ensures same { IfNone result (tasks_in self.new.tasks ≡ []) }
-        ensures is_synced { self.new.tasks.is_synced ≡ self.old.tasks.is_synced }
-        ensures kept { self.new ≡ record self.old { tasks = self.new.tasks } }
+    pub fn has_failed(&self) -> bool
+        ensures { result ≡ failed self.now }
     {
-        self.tasks.next(into)
-    }
-
-    // Keeps bytes that were handed in, unless a write that waits may change them.
-    fn take_in(&mut self, at: u64, bytes: &[u8]) -> Result<(), AllocError>
-        requires { at + length bytes.now < 2 ^ 64 }
-        ensures pieces { (file : List ℕ) → AreWithin file (tasks_in self.old.tasks)
-            → StandsAt at bytes.now file → ArePieces self.old.pieces (seen_in file self.old.tasks)
-            → ArePieces self.new.pieces (seen_in file self.old.tasks) }
-        ensures kept { self.new ≡ record self.old { pieces = self.new.pieces; needs = self.new.needs } }
-    {
-        let end = at + bytes.len() as u64;
-        if bytes.is_empty() || self.tasks.may_change(at, end) {
-            return Ok(());
-        }
-        self.pieces.add(at, bytes)?;
-        self.needs = None;
-        Ok(())
-    }
-
-    // Gives bytes that were handed in, or notes that they are needed.
-    fn read(&mut self, at: u64, into: &mut [u8]) -> bool
-        requires { at + length into.old < 2 ^ 64 }
-        ensures length { length into.new ≡ length into.old }
-        ensures bytes { (seen : List ℕ) → ArePieces self.old.pieces seen → IsTrue result
-            → StandsAt at into.new seen }
-        ensures kept { self.new ≡ record self.old { needs = self.new.needs } }
-    {
-        if self.pieces.read(at, into) {
-            return true;
-        }
-        self.needs = Some((at, into.len()));
-        false
-    }
-
-    // Lets a write wait, and drops the pieces that it writes over.
-    fn write(&mut self, at: u64, bytes: &[u8]) -> bool
-        requires { at + length bytes.now < 2 ^ 64 }
-        ensures works { IsTrue result → self.old.failed ≡ false }
-        ensures added { IsTrue result → 0 < length bytes.now
-            → tasks_in self.new.tasks ≡ tasks_in self.old.tasks ++ Write at bytes.now ∷ [] }
-        ensures unsynced { IsTrue result → 0 < length bytes.now → self.new.tasks.is_synced ≡ false }
-        ensures empty { length bytes.now ≡ 0 → self.new.tasks ≡ self.old.tasks }
-        ensures written { (file : List ℕ) → IsTrue result → seen_in file self.new.tasks
-            ≡ overlaid (seen_in file self.old.tasks) at bytes.now }
-        ensures within { (file : List ℕ) → IsTrue result → AreWithin file (tasks_in self.old.tasks)
-            → at ≤ length (seen_in file self.old.tasks) → AreWithin file (tasks_in self.new.tasks) }
-        ensures pieces { (seen : List ℕ) → at ≤ length seen → ArePieces self.old.pieces seen
-            → IsTrue result → ArePieces self.new.pieces (overlaid seen at bytes.now) }
-        ensures refused { result ≡ false → tasks_in self.new.tasks ≡ tasks_in self.old.tasks }
-        ensures still { result ≡ false → self.new.tasks.is_synced ≡ self.old.tasks.is_synced }
-        ensures kept { result ≡ false → self.new ≡ record self.old { tasks = self.new.tasks } }
-        ensures failed { self.new.failed ≡ self.old.failed }
-    {
-        if self.failed || self.tasks.write(at, bytes).is_err() {
-            return false;
-        }
-        self.pieces.drop_between(at, at + bytes.len() as u64);
-        true
-    }
-
-    // Lets go of what was handed in, and of what was needed.
-    fn forget(&mut self)
-        ensures pieces { (file : List ℕ) → ArePieces self.new.pieces file }
-        ensures needs { self.new.needs ≡ None }
-        ensures kept { self.new ≡ record self.old { pieces = self.new.pieces; needs = self.new.needs } }
-    {
-        self.pieces.clear();
-        self.needs = None;
-    }
-
-    // Lets nothing wait any more, and nothing wait later.
-    fn fail(&mut self)
-        ensures none { tasks_in self.new.tasks ≡ [] }
-        ensures failed { self.new.failed ≡ true }
-        ensures kept { self.new
-            ≡ record self.old { tasks = self.new.tasks; failed = self.new.failed } }
-    {
-        self.tasks.clear();
-        self.failed = true;
-    }
-
-    // Lets a sync wait, where one is due.
-    fn sync(&mut self) -> bool
-        ensures works { IsTrue result → self.old.failed ≡ false }
-        ensures added { IsTrue result → self.old.tasks.is_synced ≡ false
-            → tasks_in self.new.tasks ≡ tasks_in self.old.tasks ++ Sync ∷ [] }
-        ensures same { IsTrue result → self.old.tasks.is_synced ≡ true
-            → tasks_in self.new.tasks ≡ tasks_in self.old.tasks }
-        ensures is_synced { IsTrue result → self.new.tasks.is_synced ≡ true }
-        ensures refused { result ≡ false → self.new ≡ self.old }
-        ensures seen { (file : List ℕ) → seen_in file self.new.tasks ≡ seen_in file self.old.tasks }
-        ensures within { (file : List ℕ) → AreWithin file (tasks_in self.old.tasks)
-            → AreWithin file (tasks_in self.new.tasks) }
-        ensures kept { self.new ≡ record self.old { tasks = self.new.tasks } }
-    {
-        if self.failed {
-            return false;
-        }
-        self.tasks.sync();
-        true
+        self.stage.failed
     }
 }
 
 impl Disk for StagedDisk {
-    ghost use Rattle.sled_disk.specs.Staged.{counts_of};
+    ghost use Rattle.sled_disk.specs.Journal.{Write, Sync};
+    ghost use Rattle.sled_disk.specs.Staged.{counts_of, waiting, synced, failed, StillWaits, WritesByte};
 
     ghost tells = { ⊥ };
 
@@ -287,6 +151,7 @@ impl Disk for StagedDisk {
         ensures only { IfErr result (λ e. e ≡ ReadFault) }
         ensures cause { HasCause (counts_of self.old) (counts_of self.new) result }
         ensures reads { self.new.reads ≡ one_more self.old.reads }
+        ensures waits { StillWaits self.old self.new }
     {
         count(&mut self.reads);
         Ok(self.len)
@@ -299,12 +164,13 @@ impl Disk for StagedDisk {
         ensures only { IfErr result (λ e. e ≡ ReadFault) }
         ensures cause { HasCause (counts_of self.old) (counts_of self.new) result }
         ensures reads { self.new.reads ≡ one_more self.old.reads }
+        ensures waits { StillWaits self.old self.new }
     {
         count(&mut self.reads);
         let is_within = at <= self.len && into.len() as u64 <= self.len - at;
         if !is_within {
-            self.stage.get_mut().needs = None;
-        } else if self.stage.get_mut().read(at, into) {
+            self.stage.needs = None;
+        } else if self.stage.read(at, into) {
             return Ok(());
         }
         count(&mut self.failed_reads);
@@ -315,8 +181,9 @@ impl Disk for StagedDisk {
         ensures kept { self.new.len ≡ self.old.len }
         ensures only { IfErr result (λ e. e ≡ Memory) }
         ensures counts { counts_of self.new ≡ counts_of self.old }
+        ensures waits { StillWaits self.old self.new }
     {
-        self.stage.get_mut().tasks.make_room(len)?;
+        self.stage.tasks.make_room(len)?;
         Ok(())
     }
 
@@ -329,10 +196,17 @@ impl Disk for StagedDisk {
         ensures only { IfErr result (λ e. e ≡ WriteFault) }
         ensures cause { HasCause (counts_of self.old) (counts_of self.new) result }
         ensures reads { self.new.reads ≡ self.old.reads }
+        ensures works { OnOk result (failed self.old ≡ false) }
+        ensures added { OnOk result (0 < length bytes.now
+            → waiting self.new ≡ waiting self.old ++ Write at bytes.now ∷ []) }
+        ensures unsynced { OnOk result (0 < length bytes.now → synced self.new ≡ false) }
+        ensures empty { length bytes.now ≡ 0 → StillWaits self.old self.new }
+        ensures waits { OnErr result (StillWaits self.old self.new) }
+        ensures still { failed self.new ≡ failed self.old }
     {
         let len = bytes.len() as u64;
         let is_within = at <= self.len && len <= u64::MAX - at;
-        if is_within && self.stage.get_mut().write(at, bytes) {
+        if is_within && self.stage.write(at, bytes) {
             self.len = self.len.max(at + len);
             return Ok(());
         }
@@ -346,6 +220,11 @@ impl Disk for StagedDisk {
         ensures only { IfErr result (λ e. (e ≡ ReadFault) ⊎ (e ≡ WriteFault)) }
         ensures cause { HasCause (counts_of self.old) (counts_of self.new) result }
         ensures reads { self.new.reads ≡ one_more self.old.reads }
+        ensures works { OnOk result (failed self.old ≡ false) }
+        ensures again { OnOk result (WritesByte at self.old self.new) }
+        ensures unsynced { OnOk result (synced self.new ≡ false) }
+        ensures still { failed self.new ≡ failed self.old }
+        ensures waits { OnErr result (StillWaits self.old self.new) }
     {
         let mut byte = [0];
         self.read_at(at, &mut byte)?;
@@ -357,8 +236,15 @@ impl Disk for StagedDisk {
         ensures only { IfErr result (λ e. e ≡ WriteFault) }
         ensures cause { HasCause (counts_of self.old) (counts_of self.new) result }
         ensures reads { self.new.reads ≡ self.old.reads }
+        ensures works { OnOk result (failed self.old ≡ false) }
+        ensures added { OnOk result (synced self.old ≡ false
+            → waiting self.new ≡ waiting self.old ++ Sync ∷ []) }
+        ensures none_due { OnOk result (synced self.old ≡ true → waiting self.new ≡ waiting self.old) }
+        ensures synced { OnOk result (synced self.new ≡ true) }
+        ensures waits { OnErr result (StillWaits self.old self.new) }
+        ensures still { failed self.new ≡ failed self.old }
     {
-        if self.stage.get_mut().sync() {
+        if self.stage.sync() {
             return Ok(());
         }
         count(&mut self.write_faults);

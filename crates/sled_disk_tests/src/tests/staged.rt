@@ -71,7 +71,7 @@ fn makes_room(disk: &mut StagedDisk, len: usize, succeeds: bool) -> bool {
 }
 
 // The next task, with a buffer of so many bytes, and whether that has these bytes in front and is as it was behind them.
-fn next_task(disk: &StagedDisk, room: usize, expected: &[u8]) -> (Option<Task>, bool) {
+fn next_task(disk: &mut StagedDisk, room: usize, expected: &[u8]) -> (Option<Task>, bool) {
     let mut into = [0x2a; 64];
     let task = match into.get_mut(..room) {
         Some(part) => disk.next_task(part),
@@ -102,7 +102,7 @@ fn calls(disk: &mut StagedDisk, step: Step) -> bool {
 }
 
 // Takes a step of the disk's caller.
-fn works(disk: &StagedDisk, step: Step) -> bool {
+fn works(disk: &mut StagedDisk, step: Step) -> bool {
     match step {
         Step::ToWrite(room, at, bytes) => {
             let len = bytes.len();

@@ -24,6 +24,7 @@ mod moves;
 mod pages;
 mod rewrite;
 mod roots;
+mod served;
 mod shapes;
 mod sizes;
 mod snapshots;

@@ -1,6 +1,6 @@
 // Bytes of a file that the caller of a staged disk read and handed in.
 
-ghost use Rattle.std.specs.Prelude.{◌≡◌, ◌≤◌, ◌<◌, ◌+◌, ◌-◌, ◌^◌, ℕ, List, length, drop, vec_len, IsTrue, IfSome};
+ghost use Rattle.std.specs.Prelude.{◌≡◌, ◌≤◌, ◌<◌, ◌+◌, ◌-◌, ◌^◌, ℕ, List, [], length, drop, vec_len, IsTrue, IfSome};
 ghost use Rattle.std.specs.List.{filter};
 
 use std::alloc::{AllocError, Global};
@@ -105,7 +105,7 @@ impl Pieces {
 
     // Drops all of them.
     pub(super) fn clear(&mut self)
-        ensures { (file : List ℕ) → ArePieces self.new file }
+        ensures { self.new.pieces.items ≡ [] }
     {
         self.pieces.clear();
     }

@@ -1,5 +1,7 @@
 // A caller that works off the tasks of a staged disk on a list of bytes. Where memory is refused it tries once more.
 
+ghost use Rattle.std.specs.Prelude.{◌≡◌};
+
 use super::*;
 
 // The file of a test, and the room of the buffer that takes the bytes of a task. After so many tasks the power is off.
@@ -47,6 +49,7 @@ impl Device {
     // Does a task whose bytes stand in front of these.
     fn take(&mut self, task: Task, bytes: &[u8]) -> bool {
         self.tasks = self.tasks.saturating_add(1);
+        self.tasks_left = self.tasks_left.saturating_sub(1);
         match task {
             Task::Write { at, len } => match bytes.get(..len) {
                 Some(bytes) => overwrite(&mut self.file, at, bytes),
@@ -60,7 +63,7 @@ impl Device {
     }
 
     // Does all that waits, until the power is off.
-    pub(super) fn work_off(&mut self, disk: &StagedDisk) -> bool {
+    pub(super) fn work_off(&mut self, disk: &mut StagedDisk) -> bool {
         let mut buffer = [0; 64];
         let Some(into) = buffer.get_mut(..self.room) else {
             return false;
@@ -72,7 +75,6 @@ impl Device {
             let Some(task) = disk.next_task(into) else {
                 return true;
             };
-            self.tasks_left = self.tasks_left.saturating_sub(1);
             if !self.take(task, into) {
                 return false;
             }
@@ -80,20 +82,61 @@ impl Device {
         false
     }
 
+    // The same for a log.
+    pub(super) fn work_off_log(&mut self, log: &mut DiskLog<StagedDisk>) -> bool
+        ensures { log.new.usable ≡ log.old.usable }
+    {
+        let mut buffer = [0; 64];
+        let Some(into) = buffer.get_mut(..self.room) else {
+            return false;
+        };
+        for _ in 0..1000u32 {
+            if self.tasks_left == 0 {
+                return true;
+            }
+            let Some(task) = log.next_task(into) else {
+                return true;
+            };
+            if !self.take(task, into) {
+                return false;
+            }
+        }
+        false
+    }
+
+    // The bytes that are needed, and their place.
+    fn wanted(&mut self, needs: Option<(u64, usize)>) -> Option<(u64, &[u8])> {
+        let (at, len) = needs?;
+        self.handed_in = self.handed_in.saturating_add(len);
+        let from = at as usize;
+        Some((at, self.file.get(from..from.saturating_add(len))?))
+    }
+
     // Hands in what is needed and nothing else, once nothing waits.
-    pub(super) fn serve(&mut self, disk: &StagedDisk) -> bool {
+    pub(super) fn serve(&mut self, disk: &mut StagedDisk) -> bool {
         if !self.work_off(disk) {
             return false;
         }
-        let Some((at, len)) = disk.needs() else {
-            return false;
-        };
+        let needs = disk.needs();
         disk.forget();
-        let from = at as usize;
-        let Some(bytes) = self.file.get(from..from.saturating_add(len)) else {
+        match self.wanted(needs) {
+            Some((at, bytes)) => disk.hand_in(at, bytes).is_ok() || disk.hand_in(at, bytes).is_ok(),
+            None => false,
+        }
+    }
+
+    // The same for a log.
+    pub(super) fn serve_log(&mut self, log: &mut DiskLog<StagedDisk>) -> bool
+        ensures { log.new.usable ≡ log.old.usable }
+    {
+        if !self.work_off_log(log) {
             return false;
-        };
-        self.handed_in = self.handed_in.saturating_add(len);
-        disk.hand_in(at, bytes).is_ok() || disk.hand_in(at, bytes).is_ok()
+        }
+        let needs = log.disk().needs();
+        log.forget();
+        match self.wanted(needs) {
+            Some((at, bytes)) => log.hand_in(at, bytes).is_ok() || log.hand_in(at, bytes).is_ok(),
+            None => false,
+        }
     }
 }

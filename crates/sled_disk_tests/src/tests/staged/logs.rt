@@ -90,8 +90,8 @@ fn opened(alloc: Global, mut disk: StagedDisk, device: &mut Device) -> Option<Di
     for _ in 0..8u32 {
         match DiskLog::open(alloc, disk, SEGMENT_SIZE, 0) {
             Ok(log) => return Some(log),
-            Err((LogError::ReadFault, back)) => {
-                if !device.serve(&back) {
+            Err((LogError::ReadFault, mut back)) => {
+                if !device.serve(&mut back) {
                     return None;
                 }
                 disk = back;
@@ -111,12 +111,12 @@ fn log_on(alloc: Global, device: &mut Device) -> Option<DiskLog<StagedDisk>>
     if DiskLog::create(&mut disk).is_err() && DiskLog::create(&mut disk).is_err() {
         return None;
     }
-    if !device.work_off(&disk) {
+    if !device.work_off(&mut disk) {
         return None;
     }
     let mut log = opened(alloc, disk, device)?;
     for act in ACTS {
-        if !acts(&mut log, *act) || !device.work_off(log.disk()) {
+        if !acts(&mut log, *act) || !device.work_off_log(&mut log) {
             return None;
         }
     }
@@ -221,13 +221,13 @@ fn reads_pages(log: &mut DiskLog<StagedDisk>, device: &mut Device) -> bool
     let Some(false) = is_read(log, 2, 169, &PAYLOAD) else {
         return false;
     };
-    if log.disk().needs() != Some((186, 60)) || !device.serve(log.disk()) {
+    if log.disk().needs() != Some((186, 60)) || !device.serve_log(log) {
         return false;
     }
     let Some(true) = is_read(log, 2, 169, &PAYLOAD) else {
         return false;
     };
-    log.disk().forget();
+    log.forget();
     is_read(log, 1, 255, &[]) == Some(true) && log.disk().needs().is_none()
 }
 
@@ -235,11 +235,11 @@ fn reads_pages(log: &mut DiskLog<StagedDisk>, device: &mut Device) -> bool
 fn stops(log: &mut DiskLog<StagedDisk>) -> bool
     requires { log.old.usable ≡ true }
 {
-    log.disk().fail();
+    log.fail();
     if log.batch_open() || log.make_stable() != Err(LogError::WriteFault) {
         return false;
     }
-    log.write_faults() == 1 && log.disk().next_task(&mut [0; 64]).is_none()
+    log.write_faults() == 1 && log.next_task(&mut [0; 64]).is_none()
 }
 
 fn reads_and_stops(alloc: Global) -> bool {

@@ -36,7 +36,7 @@ fn opened(alloc: Global, mut disk: StagedDisk, device: &mut Device) -> Option<Di
             }
             Err(_) => return None,
         }
-        if !device.serve(&disk) {
+        if !device.serve(&mut disk) {
             return None;
         }
     }

@@ -1,6 +1,6 @@
 use Rattle.sled_disk.specs.Staged.{tasks_in}
 use Rattle.sled_disk.proofs.HandedIn.{seen-sync, still-sync}
-use Rattle.sled_disk.proofs.disk.staged.Stage.sync.Goals as goal
+use Rattle.sled_disk.proofs.disk.staged.stage.Stage.sync.Goals as goal
 
 pub returns-clause-seen : goal.returns-clause-seen
 returns-clause-seen c file =

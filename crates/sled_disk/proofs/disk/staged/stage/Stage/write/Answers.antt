@@ -3,7 +3,7 @@ use Rattle.sled_disk.specs.Disk.{overlaid}
 use Rattle.sled_disk.specs.Journal.{Write}
 use Rattle.sled_disk.specs.Staged.{tasks_in}
 use Rattle.sled_disk.proofs.HandedIn.{same-overlaid, seen-write, still-write}
-use Rattle.sled_disk.proofs.disk.staged.Stage.write.Goals as goal
+use Rattle.sled_disk.proofs.disk.staged.stage.Stage.write.Goals as goal
 
 pub returns-clause-pieces : goal.returns-clause-pieces
 returns-clause-pieces c seen le stand is =

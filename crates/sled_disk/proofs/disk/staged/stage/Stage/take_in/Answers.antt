@@ -1,7 +1,7 @@
 use Rattle.sled_disk.specs.HandedIn.{seen_in}
 use Rattle.sled_disk.specs.Staged.{tasks_in}
 use Rattle.sled_disk.proofs.HandedIn.{stands-after}
-use Rattle.sled_disk.proofs.disk.staged.Stage.take_in.Goals as goal
+use Rattle.sled_disk.proofs.disk.staged.stage.Stage.take_in.Goals as goal
 
 pub returns-clause-pieces : goal.returns-clause-pieces
 returns-clause-pieces c file within stands pieces =

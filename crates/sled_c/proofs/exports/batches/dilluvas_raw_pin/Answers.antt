@@ -1,0 +1,16 @@
+use Rattle.std.proofs.Common.{rules}
+use Rattle.sled_c.specs.Steps.{Opens}
+use Rattle.sled_c.proofs.OverFile.{over_file}
+use Rattle.sled_c.proofs.exports.batches.dilluvas_raw_pin.Goals as goal
+use Rattle.sled_c.proofs.exports.batches.dilluvas_raw_pin.Goals.{in-Memory, in-File, in-File-2, in-Begun}
+
+pub returns : goal.returns
+returns c = elim c.match-deref_mut.branch [
+  | in-Memory w ↦ search rules
+  | in-File w ↦ search rules
+  | in-File-2 w ↦ over_file _ {before = c.args.handle.now.store} {after = c.put.new.self.store} {old = w.in-File.cache} {then = w.pin-status-in-File-2.new.cache} {new = w.told-status.new.cache}
+      (search rules) (search rules) (search rules) w.told-status.ensures w.status-is
+      (λ L g old new status. Opens g old new status)
+      w.pin-status-in-File-2.ensures
+  | in-Begun w ↦ search rules
+]

@@ -1,0 +1,56 @@
+//! What the caller of a cache over a staged disk does for it, between its calls.
+
+ghost use Rattle.std.specs.Prelude.{◌≡◌};
+ghost use Rattle.sled_disk.specs.HandedIn.{Forgets, TakesIn};
+ghost use Rattle.sled_disk.specs.Served.{OnlyDisk};
+ghost use Rattle.sled_disk.specs.Staged.{HandsOut, Fails};
+
+use super::PageCache;
+use sled_disk::{DiskLog, StagedDisk, Task};
+use sled_log::Log;
+use std::alloc::AllocError;
+
+/// Each of these is the disk's own. The cache stays in its state, and its log does, which is the same but for the disk.
+impl PageCache<DiskLog<StagedDisk>> {
+    /// The next task of the caller, or `None` once nothing waits: `StagedDisk::next_task`.
+    pub fn next_task(&mut self, into: &mut [u8]) -> Option<Task>
+        ensures next { OnlyDisk (HandsOut result into.new) self.old.log self.new.log }
+        ensures same { self.new ≡ record self.old { log = self.new.log } }
+        ensures state { ⟦<DiskLog<StagedDisk> as Log>⟧.state self.new.log
+            ≡ ⟦<DiskLog<StagedDisk> as Log>⟧.state self.old.log }
+    {
+        self.sticky_log.log.next_task(into)
+    }
+
+    /// Hands in bytes of the file, from a place on: `StagedDisk::hand_in`.
+    ///
+    /// AllocError: there was no memory for a copy of them, and nothing changed.
+    pub fn hand_in(&mut self, at: u64, bytes: &[u8]) -> Result<(), AllocError>
+        ensures taken { OnlyDisk (TakesIn at bytes.now) self.old.log self.new.log }
+        ensures same { self.new ≡ record self.old { log = self.new.log } }
+        ensures state { ⟦<DiskLog<StagedDisk> as Log>⟧.state self.new.log
+            ≡ ⟦<DiskLog<StagedDisk> as Log>⟧.state self.old.log }
+    {
+        self.sticky_log.log.hand_in(at, bytes)
+    }
+
+    /// Lets go of what was handed in, and of what was needed.
+    pub fn forget(&mut self)
+        ensures forgets { OnlyDisk Forgets self.old.log self.new.log }
+        ensures same { self.new ≡ record self.old { log = self.new.log } }
+        ensures state { ⟦<DiskLog<StagedDisk> as Log>⟧.state self.new.log
+            ≡ ⟦<DiskLog<StagedDisk> as Log>⟧.state self.old.log }
+    {
+        self.sticky_log.log.forget();
+    }
+
+    /// A write or a sync of the caller failed. Nothing waits any more, and each later write is a WriteFault.
+    pub fn fail(&mut self)
+        ensures fails { OnlyDisk Fails self.old.log self.new.log }
+        ensures same { self.new ≡ record self.old { log = self.new.log } }
+        ensures state { ⟦<DiskLog<StagedDisk> as Log>⟧.state self.new.log
+            ≡ ⟦<DiskLog<StagedDisk> as Log>⟧.state self.old.log }
+    {
+        self.sticky_log.log.fail();
+    }
+}
