@@ -23,3 +23,4 @@ mod Bounded
 mod Reached
 mod Created
 mod Kept
+mod WrittenAgain

@@ -64,3 +64,33 @@ pub record Forgets (old new : StagedDisk) : Type 0 where
   pub fed : IsFed old new
   pub pieces : new.stage.pieces.pieces.items ≡ []
   pub needs : new.stage.needs ≡ None
+
+-- what a read is to give of a file with the tasks of a disk still before it
+abbrev pub seen_over : List ℕ → StagedDisk → List ℕ
+seen_over file disk = seen_in file disk.stage.tasks
+
+-- The disk stands over this file, which is so once all is done that was handed out: what waits lies within it, the pieces are bytes that a
+-- read is to give, and their number is the length.
+pub record IsOver (file : List ℕ) (disk : StagedDisk) : Type 0 where
+  pub within : AreWithin file (waiting disk)
+  pub pieces : ArePieces disk.stage.pieces (seen_over file disk)
+  pub len : disk.len ≡ length (seen_over file disk)
+
+-- It does so behind a call, and a read is to give the same.
+pub record StaysOver (file : List ℕ) (old new : StagedDisk) : Type 0 where
+  pub over : IsOver file new
+  pub seen : seen_over file new ≡ seen_over file old
+
+-- A read gives these bytes of it at a place.
+abbrev pub ReadsOver : List ℕ → StagedDisk → ℕ → List ℕ → Type 0
+ReadsOver file disk at bytes = StandsAt at bytes (seen_over file disk)
+
+-- It has these bytes at a place then.
+pub record WritesOver (file : List ℕ) (at : ℕ) (bytes : List ℕ) (old new : StagedDisk) : Type 0 where
+  pub over : IsOver file new
+  pub written : seen_over file new ≡ overlaid (seen_over file old) at bytes
+
+-- A task was done to the file, so it stands over what that left.
+pub record HandsOver (file : List ℕ) (task : Task) (buffer : List ℕ) (old new : StagedDisk) : Type 0 where
+  pub over : IsOver (after_task file task buffer) new
+  pub seen : seen_over (after_task file task buffer) new ≡ seen_over file old

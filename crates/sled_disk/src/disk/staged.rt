@@ -1,6 +1,6 @@
 //! A disk whose caller does the reading and writing.
 
-ghost use Rattle.std.specs.Prelude.{◌≡◌, ◌≤◌, ◌<◌, ◌+◌, ◌^◌, ◌⊎◌, ◌++◌, ℕ, List, [], ◌∷◌, None, false, true, length, max, IfOk, IfErr, OnOk, OnErr, IsOk};
+ghost use Rattle.std.specs.Prelude.{◌≡◌, ◌≤◌, ◌<◌, ◌+◌, ◌^◌, ◌⊎◌, ◌++◌, ℕ, List, [], ◌∷◌, Some, false, true, length, max, IfOk, IfErr, IfSome, OnOk, OnErr, IsOk};
 ghost use Rattle.sled_log.specs.Calls.{Counts, HasCause, one_more};
 ghost use Rattle.sled_log.specs.declared.log.LogError.TheVariants.{Memory, ReadFault, WriteFault};
 
@@ -22,8 +22,9 @@ mod tasks;
 /// says what it wanted: then the caller works off what waits, reads those bytes, hands them in by `hand_in` and makes the call again.
 /// Once it has an answer it lets them go by `forget`. Where a task fails it says so by `fail`.
 ///
-/// Which bytes a read gives is so the caller's word: as of a file, all that is known is why a call fails, and the counts. The length is
-/// what the disk was told when it was made, and what is written past it.
+/// Which bytes a read gives is so the caller's word. Over a file whose bytes are handed in as they are, a read gives what the file will
+/// hold once all that waits is done, and each write and sync that answers Ok waits. A log is told nothing of that: as of a file, all that
+/// it knows is why a call fails, and the counts. The length is what the disk was told when it was made, and what is written past it.
 ///
 /// `make_room` takes the memory for the next two writes, which is kept for later ones. A write for which no room was made takes its own,
 /// and is a WriteFault where there is none; nothing of it waits then, and the disk goes on. A sync takes no memory.
@@ -37,7 +38,7 @@ pub struct StagedDisk {
 }
 
 impl StagedDisk {
-    ghost use Rattle.sled_disk.specs.HandedIn.{Forgets, TakesIn};
+    ghost use Rattle.sled_disk.specs.HandedIn.{Forgets, HandsOver, IsOver, StandsAt, StaysOver, TakesIn};
     ghost use Rattle.sled_disk.specs.Staged.{waiting, synced, failed, StillWaits, HandsOut, Fails};
 
     /// The disk of a file that has so many bytes. It takes no memory. What the file holds is not known to be durable, so the first sync
@@ -49,6 +50,7 @@ impl StagedDisk {
         ensures none { waiting result ≡ [] }
         ensures unsynced { synced result ≡ false }
         ensures works { failed result ≡ false }
+        ensures over { (file : List ℕ) → length file ≡ len → IsOver file result }
     {
         StagedDisk {
             stage: Stage::new(alloc),
@@ -65,6 +67,8 @@ impl StagedDisk {
     /// buffer of no bytes a write comes as one of none, and waits as before.
     pub fn next_task(&mut self, into: &mut [u8]) -> Option<Task>
         ensures next { HandsOut result into.new self.old self.new }
+        ensures over { (file : List ℕ) → IsOver file self.old
+            → IfSome result (λ task. HandsOver file task into.new self.old self.new) }
     {
         self.stage.next(into)
     }
@@ -87,6 +91,8 @@ impl StagedDisk {
     pub fn hand_in(&mut self, at: u64, bytes: &[u8]) -> Result<(), AllocError>
         ensures taken { TakesIn at bytes.now self.old self.new }
         ensures waits { StillWaits self.old self.new }
+        ensures over { (file : List ℕ) → StandsAt at bytes.now file → IsOver file self.old
+            → StaysOver file self.old self.new }
     {
         let behind = self.len.saturating_sub(at);
         let len = behind.min(bytes.len() as u64) as usize;
@@ -97,6 +103,7 @@ impl StagedDisk {
     pub fn forget(&mut self)
         ensures forgets { Forgets self.old self.new }
         ensures waits { StillWaits self.old self.new }
+        ensures over { (file : List ℕ) → IsOver file self.old → StaysOver file self.old self.new }
     {
         self.stage.forget();
     }
@@ -118,6 +125,7 @@ impl StagedDisk {
 }
 
 impl Disk for StagedDisk {
+    ghost use Rattle.sled_disk.specs.HandedIn.{IsOver, ReadsOver, StaysOver, WritesOver};
     ghost use Rattle.sled_disk.specs.Journal.{Write, Sync};
     ghost use Rattle.sled_disk.specs.Staged.{counts_of, waiting, synced, failed, StillWaits, WritesByte};
 
@@ -152,6 +160,7 @@ impl Disk for StagedDisk {
         ensures cause { HasCause (counts_of self.old) (counts_of self.new) result }
         ensures reads { self.new.reads ≡ one_more self.old.reads }
         ensures waits { StillWaits self.old self.new }
+        ensures over { (file : List ℕ) → IsOver file self.old → StaysOver file self.old self.new }
     {
         count(&mut self.reads);
         Ok(self.len)
@@ -165,6 +174,11 @@ impl Disk for StagedDisk {
         ensures cause { HasCause (counts_of self.old) (counts_of self.new) result }
         ensures reads { self.new.reads ≡ one_more self.old.reads }
         ensures waits { StillWaits self.old self.new }
+        ensures over { (file : List ℕ) → IsOver file self.old → StaysOver file self.old self.new }
+        ensures bytes { (file : List ℕ) → IsOver file self.old
+            → OnOk result (ReadsOver file self.old at into.new) }
+        ensures needed { OnErr result (at + length into.old ≤ self.old.len
+            → self.new.stage.needs ≡ Some (at, length into.old)) }
     {
         count(&mut self.reads);
         let is_within = at <= self.len && into.len() as u64 <= self.len - at;
@@ -182,6 +196,7 @@ impl Disk for StagedDisk {
         ensures only { IfErr result (λ e. e ≡ Memory) }
         ensures counts { counts_of self.new ≡ counts_of self.old }
         ensures waits { StillWaits self.old self.new }
+        ensures over { (file : List ℕ) → IsOver file self.old → StaysOver file self.old self.new }
     {
         self.stage.tasks.make_room(len)?;
         Ok(())
@@ -203,6 +218,10 @@ impl Disk for StagedDisk {
         ensures empty { length bytes.now ≡ 0 → StillWaits self.old self.new }
         ensures waits { OnErr result (StillWaits self.old self.new) }
         ensures still { failed self.new ≡ failed self.old }
+        ensures over { (file : List ℕ) → IsOver file self.old
+            → OnOk result (WritesOver file at bytes.now self.old self.new) }
+        ensures stays { (file : List ℕ) → IsOver file self.old
+            → OnErr result (StaysOver file self.old self.new) }
     {
         let len = bytes.len() as u64;
         let is_within = at <= self.len && len <= u64::MAX - at;
@@ -225,6 +244,7 @@ impl Disk for StagedDisk {
         ensures unsynced { OnOk result (synced self.new ≡ false) }
         ensures still { failed self.new ≡ failed self.old }
         ensures waits { OnErr result (StillWaits self.old self.new) }
+        ensures over { (file : List ℕ) → IsOver file self.old → StaysOver file self.old self.new }
     {
         let mut byte = [0];
         self.read_at(at, &mut byte)?;
@@ -243,6 +263,7 @@ impl Disk for StagedDisk {
         ensures synced { OnOk result (synced self.new ≡ true) }
         ensures waits { OnErr result (StillWaits self.old self.new) }
         ensures still { failed self.new ≡ failed self.old }
+        ensures over { (file : List ℕ) → IsOver file self.old → StaysOver file self.old self.new }
     {
         if self.stage.sync() {
             return Ok(());

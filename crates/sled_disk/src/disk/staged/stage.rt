@@ -1,6 +1,6 @@
 // What waits, and what was handed in.
 
-ghost use Rattle.std.specs.Prelude.{◌≡◌, ◌≤◌, ◌<◌, ◌+◌, ◌^◌, ◌++◌, ℕ, List, [], ◌∷◌, None, false, true, length, IfSome, IfNone, IsTrue};
+ghost use Rattle.std.specs.Prelude.{◌≡◌, ◌≤◌, ◌<◌, ◌+◌, ◌^◌, ◌++◌, ℕ, List, [], ◌∷◌, None, Some, false, true, length, IfSome, IfNone, IsTrue};
 
 use super::pieces::Pieces;
 use super::tasks::{Task, Tasks};
@@ -79,6 +79,7 @@ impl Stage {
         ensures length { length into.new ≡ length into.old }
         ensures bytes { (seen : List ℕ) → ArePieces self.old.pieces seen → IsTrue result
             → StandsAt at into.new seen }
+        ensures needed { result ≡ false → self.new.needs ≡ Some (at, length into.old) }
         ensures kept { self.new ≡ record self.old { needs = self.new.needs } }
     {
         if self.pieces.read(at, into) {
