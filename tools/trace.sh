@@ -1,6 +1,7 @@
 #!/bin/sh
 # Looks at the calls of the system that the program makes of its file, which no proof sees: by `strace` where it is there, and it says so where
-# it isn't. And it lets the program run into a limit on the size of its files.
+# it isn't. Where there is a C compiler the system does a part of each read and write, and interrupts some. And the program runs into a limit
+# on the size of its files.
 #
 #     tools/trace.sh [PROGRAM]
 #
@@ -81,6 +82,28 @@ if command -v strace >/dev/null && strace -o calls true 2>/dev/null; then
     trace
 else
     echo 'trace.sh: there is no strace that works: the calls of the system were not looked at'
+fi
+
+# ---- reads and writes of which a part is done
+
+# The replies and the file are those of a run in which each is done at once. Two runs, since the second one reads.
+short() {
+    "${CC:-cc}" -O2 -Wall -Wextra -shared -fPIC -o short.so "$top/tools/short.c"
+    awk 'BEGIN { for (i = 2; i < 200; i++) printf "alloc 61=%0*d\nset %d 1 62 63\n", 2 * i, 0, i; print "flush" }' >first
+    awk 'BEGIN { for (i = 2; i < 200; i++) print "get", i; print "id\nflush" }' >second
+    for run in first second; do
+        "$program" file whole <"$run" >"whole.$run"
+        LD_PRELOAD=$work/short.so "$program" file parted <"$run" >"parted.$run" || fail "the $run run fails where a part of each read and write is done"
+        cmp "whole.$run" "parted.$run" && cmp whole parted || fail "the $run run differs where a part of each read and write is done"
+    done
+    [ "$(tail -n 1 parted.first)" != 'error write' ] || fail 'a write of which a part is done fails'
+    echo 'trace.sh: of reads and writes a part is done, and all is as it was'
+}
+
+if command -v "${CC:-cc}" >/dev/null; then
+    short
+else
+    echo 'trace.sh: no C compiler: no read or write was cut short'
 fi
 
 # ---- a limit on the size of files
