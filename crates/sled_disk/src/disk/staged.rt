@@ -259,7 +259,8 @@ impl Disk for StagedDisk {
         ensures works { OnOk result (failed self.old ≡ false) }
         ensures added { OnOk result (synced self.old ≡ false
             → waiting self.new ≡ waiting self.old ++ Sync ∷ []) }
-        ensures none_due { OnOk result (synced self.old ≡ true → waiting self.new ≡ waiting self.old) }
+        ensures none_due { OnOk result
+            (synced self.old ≡ true → waiting self.new ≡ waiting self.old) }
         ensures synced { OnOk result (synced self.new ≡ true) }
         ensures waits { OnErr result (StillWaits self.old self.new) }
         ensures still { failed self.new ≡ failed self.old }

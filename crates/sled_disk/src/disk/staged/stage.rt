@@ -62,7 +62,8 @@ impl Stage {
         ensures pieces { (file : List ℕ) → AreWithin file (tasks_in self.old.tasks)
             → StandsAt at bytes.now file → ArePieces self.old.pieces (seen_in file self.old.tasks)
             → ArePieces self.new.pieces (seen_in file self.old.tasks) }
-        ensures kept { self.new ≡ record self.old { pieces = self.new.pieces; needs = self.new.needs } }
+        ensures kept { self.new
+            ≡ record self.old { pieces = self.new.pieces; needs = self.new.needs } }
     {
         let end = at + bytes.len() as u64;
         if bytes.is_empty() || self.tasks.may_change(at, end) {
@@ -119,7 +120,8 @@ impl Stage {
     pub(super) fn forget(&mut self)
         ensures pieces { self.new.pieces.pieces.items ≡ [] }
         ensures needs { self.new.needs ≡ None }
-        ensures kept { self.new ≡ record self.old { pieces = self.new.pieces; needs = self.new.needs } }
+        ensures kept { self.new
+            ≡ record self.old { pieces = self.new.pieces; needs = self.new.needs } }
     {
         self.pieces.clear();
         self.needs = None;

@@ -1,5 +1,5 @@
 -- The byte that is written stood there.
-use Rattle.std.proofs.Common.{rules, ◌≡◌, ◌+◌, ◌≤◌, length, arith}
+use Rattle.std.proofs.Common.{◌+◌, ◌≤◌, length, arith}
 use Rattle.sled_disk.specs.HandedIn.{StaysOver, seen_over}
 use Rattle.sled_disk.proofs.WrittenAgain.{stays-again}
 use Rattle.sled_disk.proofs.disk.staged.StagedDiskDisk.write_again.Goals as goal
