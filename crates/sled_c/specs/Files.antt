@@ -119,10 +119,6 @@ told_task None = nothing_to_do
 told_task (Some (Write at len)) = record { kind = 1; at = at; len = len }
 told_task (Some Sync) = record { kind = 2; at = 0; len = 0 }
 
--- it is a task, or none
-abbrev pub IsTask : FileTask → Type 0
-IsTask told = (task : Option Task) × (told ≡ told_task task)
-
 -- The step of an opening is the same but for its disk, of which this holds.
 abbrev pub StepIsBut : (StagedDisk → StagedDisk → Type 0) → Option Step → Option Step → Type 0
 StepIsBut holds None new = new ≡ None
