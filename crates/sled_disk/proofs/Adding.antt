@@ -78,7 +78,7 @@ append-taken chains pid head can none = let h = rw (can-stand head.kind chains p
 pub taken-by-head : (kind : MessageKind) (chains : List (List Head)) (pid place : ℕ) (payload : List ℕ) (made : Option (List (List Head))) → step_head chains pid (record { kind = kind; place = place; len = length payload }) ≡ made → step chains place (record_of kind pid payload) false ≡ made
 taken-by-head kind chains pid place payload made is = step-is chains place (record_of kind pid payload) ∙ ap (λ k. step_head chains pid (record { kind = k; place = place; len = length payload })) (kind_of_byte_of kind) ∙ is
 
-events-more : (place : ℕ) (rs : List Record) (r : Record) → events_at entry_at place (rs ++ r ∷ []) ≡ events_at entry_at place rs ++ event_at entry_at (place + length (body rs)) r
+pub events-more : (place : ℕ) (rs : List Record) (r : Record) → events_at entry_at place (rs ++ r ∷ []) ≡ events_at entry_at place rs ++ event_at entry_at (place + length (body rs)) r
 events-more place [] r = append-nil (event_at entry_at place r) ∙ ap (λ n. event_at entry_at n r) (omega arith)
 events-more place (first ∷ rs) r =
     ap (λ (l : List (Event Entry)). event_at entry_at place first ++ l) (events-more (place + size first) rs r ∙ ap (λ n. events_at entry_at (place + size first) rs ++ event_at entry_at n r) (body-more place first rs))

@@ -24,3 +24,7 @@ mod Reached
 mod Created
 mod Kept
 mod WrittenAgain
+pub mod Among
+pub mod Naming
+pub mod Unnamed
+mod ThenRead

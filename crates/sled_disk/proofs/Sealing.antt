@@ -223,10 +223,10 @@ module _ (r s : Record) (long : size r ≡ size s) where
   same-events no_r no_s place (marks.Seal ∷ ms) before after = ap (λ (l : List (Event Entry)). Seal ∷ l) (same-events no_r no_s place ms before after)
   same-events no_r no_s place (marks.Cancel ∷ ms) before after = ap (λ (l : List (Event Entry)). Cancel ∷ l) (same-events no_r no_s place ms before after)
 
-no-event-begun : (r : Record) → Begins r → (place : ℕ) → event_at entry_at place r ≡ []
+pub no-event-begun : (r : Record) → Begins r → (place : ℕ) → event_at entry_at place r ≡ []
 no-event-begun r b place = rw b.kind refl
 
-no-event-sealed : (last : ℕ) (r : Record) (place : ℕ) → event_at entry_at place (sealed last r) ≡ []
+pub no-event-sealed : (last : ℕ) (r : Record) (place : ℕ) → event_at entry_at place (sealed last r) ≡ []
 no-event-sealed last r place = refl
 
 sealed-marks : (last at : ℕ) (r : Record) (after : List Record) → last < 2 ^ 64 → Begins r → stands_in last at (r ∷ after) ≡ true → marks_batch at (sealed last r) after ≡ true

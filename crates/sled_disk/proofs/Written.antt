@@ -6,14 +6,14 @@ use Rattle.sled_disk.specs.declared.head.Head.{Head}
 use Rattle.sled_disk.specs.Crash.{BytesLeft, IsClosed, IsShutOrOpened, IsWhole}
 use Rattle.sled_disk.specs.Durable.{IsWritten}
 use Rattle.sled_disk.specs.DurableLaws.{one-meaning, behind-gate, one-more}
-use Rattle.sled_disk.specs.Format.{Record, Fits, number_bytes, body, events_at, entry_at, Describes, IsBytes}
+use Rattle.sled_disk.specs.Format.{Record, Frame, Fits, number_bytes, body, events_at, entry_at, Describes, IsBytes}
 use Rattle.sled_disk.specs.Opened.{AreRead}
 use Rattle.sled_disk.specs.Pending.{frame_in}
-use Rattle.sled_disk.specs.Reading.{records_of}
+use Rattle.sled_disk.specs.Reading.{records_of, frames_of}
 use Rattle.sled_disk.specs.Ready.{IsBeforeOrAfter}
 use Rattle.sled_disk.specs.ReadyLaws.{none-behind, read-stands, stands-closed}
-use Rattle.sled_disk.specs.Standing.{Stands, records_behind, events_in}
-use Rattle.sled_disk.specs.StandingLaws.{Parsed, parsed, stands, described, may-follow, one-frame}
+use Rattle.sled_disk.specs.Standing.{Stands, or_none, records_behind, events_in}
+use Rattle.sled_disk.specs.StandingLaws.{Parsed, parsed, stands, described, may-follow, one-frame, one-frame-frames, frames-read}
 use Rattle.sled_disk.proofs.Waiting.{waits, waits-length}
 
 pub on_ok : {T E A : Type 0} (r : Result T E) → OnOk r A → is_ok r ≡ true → A
@@ -90,6 +90,14 @@ module _ (seen : List ℕ) (gate : ℕ) (buffer : List ℕ) (heads : List (List 
       one-meaning after (events_in after) (events_in seen ++ events_at entry_at (gate + 9) rs)
       (gate + (9 + length (body rs)), described after (gate + (9 + length (body rs))) [] heads (after-parsed after (rest, is)))
       (opened-means 1 rest after opens-one is)
+
+  -- as one frame more of the file
+  pub written-frames : (after : List ℕ) → IsWhole gate (frame_in buffer) seen after → or_none (frames_of (drop 8 after)) ≡ or_none (frames_of (drop 8 seen)) ++ record { gate = 1; records = rs } ∷ []
+  written-frames after (rest, is) =
+      let q = one-frame seen after gate rs heads 1 opens-one p some all-fit end (written 1 rest after is) in
+      frames-read after (gate + (9 + length (body rs))) [] heads q
+      ∙ one-frame-frames seen after gate rs heads 1 opens-one p some all-fit end (written 1 rest after is)
+      ∙ ap (λ (l : List Frame). l ++ record { gate = 1; records = rs } ∷ []) (sym (frames-read seen gate rs heads p))
 
 -- each crash state has what P says
 pub left-so : {D : Type 0} {moment : D → ℕ} {left_since : D → ℕ → List ℕ → Type 0} {old new : D} (P Q : List ℕ → Type 0) → ((left : List ℕ) → P left → Q left) → BytesLeft moment left_since old new P → BytesLeft moment left_since old new Q

@@ -5,6 +5,7 @@ pub mod Standing
 pub mod Pending
 pub mod Waiting
 pub mod Names
+pub mod Cursor
 pub mod Crash
 pub mod Ready
 pub mod Durable

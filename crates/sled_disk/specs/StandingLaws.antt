@@ -284,3 +284,9 @@ one-frame seen after gate rs heads byte opens p some fit small (rest, is) =
       opened = frames_steps-append 8 [] p.frames frame gate p.before heads p.opened p.made small;
       made = refl;
     }
+
+-- it is one of the file's then, behind the others
+pub one-frame-frames : (seen after : List ℕ) (gate : ℕ) (rs : List Record) (heads : List (List Head)) (byte : ℕ) (opens : byte ≢ 0) (p : Parsed seen gate rs heads) (some : rs ≢ []) (fit : AllByRecursion Fits rs) (small : gate + (9 + length (body rs)) < 2 ^ 63)
+    (written : IsWritten gate seen (record { gate = byte; records = rs }) after) → (one-frame seen after gate rs heads byte opens p some fit small written).frames ≡ p.frames ++ record { gate = byte; records = rs } ∷ []
+unfolding one-frame
+one-frame-frames seen after gate rs heads byte opens p some fit small written = refl

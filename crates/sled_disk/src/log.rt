@@ -2,7 +2,6 @@
 
 ghost use Rattle.std.specs.Prelude.{◌≡◌, ◌≢◌, ◌≤◌, ◌<◌, ◌+◌, ◌-◌, ◌^◌, ◌⊎◌, ◌++◌, ◌↔◌, List, [], ◌∷◌, true, false, length, is_ok, IfOk, IfErr, OnOk, OnErr, IsErrOf, vec_len, vec_capacity};
 ghost use Rattle.std.specs.List.{AllByRecursion};
-ghost use Rattle.std.specs.VecDeque.{deque_len, deque_capacity};
 ghost use Rattle.sled_log.specs.Calls.{HasGrown, HasCause, can_append};
 ghost use Rattle.sled_log.specs.Events.{Event, Change};
 ghost use Rattle.sled_log.specs.LogState.{now};
@@ -12,9 +11,9 @@ ghost use Rattle.sled_disk.specs.Crash.{BytesLeft, IsTornOf};
 ghost use Rattle.sled_disk.specs.Disk.{Only, overlaid, LeavesTheSame};
 ghost use Rattle.sled_disk.specs.Format.{Describes, opening};
 ghost use Rattle.sled_disk.specs.GoesOn.{GoesOn};
-ghost use Rattle.sled_disk.specs.Names.{moves_in};
+ghost use Rattle.sled_disk.specs.Cursor.{IsAmong};
+ghost use Rattle.sled_disk.specs.Names.{moves_in, messages_in};
 ghost use Rattle.sled_disk.specs.OnDisk.{Rests};
-ghost use Rattle.sled_log.specs.Moves.{moves_with};
 ghost use Rattle.sled_disk.specs.HeadLaws.{are_heads-prop, end_by-prop};
 ghost use Rattle.sled_disk.specs.Opened.{AllEndBy, AreHeads};
 ghost use Rattle.sled_disk.specs.Reading.{chains_of, effect_of_head};
@@ -34,6 +33,8 @@ use std::alloc::Global;
 
 mod calls;
 mod finding;
+mod naming;
+mod putting;
 mod served;
 
 // the opening bytes and a closed gate
@@ -58,7 +59,7 @@ pub struct DiskLog<D: Disk> {
     clean_every: u64,
     // the chains of the pages, by the heads of their records, the pending ones among them
     pages: Vec<Vec<Head>>,
-    // the messages that were not named yet
+    // which of its messages were named
     names: Names,
     next: NextFrame,
     usable: bool,
@@ -67,6 +68,8 @@ pub struct DiskLog<D: Disk> {
     ghost ends: { usable ≡ true → AllEndBy (place_of next) (chains_of pages.items) } by { end_by-prop usable (place_of next) (chains_of pages.items) },
     ghost stands: { D.tells → usable ≡ true → Stands (D.seen disk) next.gate (records_behind next.buffer.items) (chains_of pages.items) },
     ghost durable: { D.tells → usable ≡ true → Only (D.seen disk) (D.may_leave disk) },
+    ghost stood: { D.tells → usable ≡ true → IsAmong (D.seen disk) (records_behind next.buffer.items) names.gate names.at },
+    ghost counted: { usable ≡ true → names.appended ≤ place_of next },
 }
 
 impl<D: Disk> DiskLog<D> {
@@ -98,7 +101,8 @@ impl<D: Disk> DiskLog<D> {
     /// An `append` outside a batch that leaves `segment_size` bytes of records pending writes them, which takes two syncs. So between two
     /// flushes a log syncs twice for each `segment_size` bytes: some thousands keep little in memory, a million suits many writes in a
     /// row. For every `clean_every` messages that are appended one is due to be moved, the first of the
-    /// file before all others (0: none).
+    /// file before all others (0: none). An append reads which one that is, by 16 short reads at most; where a read fails, or many
+    /// marks of batches stand before it, none is due until a later append has read it.
     ///
     /// Corruption: the file describes no events, as one with fewer than nine bytes; no crash of a log leaves such a file. ReadFault and
     /// WriteFault: the device failed to read, or to write that byte or to sync. Memory: an allocation failed. At an error the disk comes
@@ -118,7 +122,10 @@ impl<D: Disk> DiskLog<D> {
         ensures reads { IfOk result (λ log. (⟦<Self as Log>⟧.counts log).reads ≡ 0) }
         ensures settings { IfOk result (λ log. (log.segment_size ≡ segment_size)
             × (log.clean_every ≡ clean_every)) }
-        ensures appended { IfOk result (λ log. (moves_in log.names).appended ≡ 0) }
+        ensures waiting { D.tells → IfOk result
+            (λ log. (moves_in (D.seen log.disk) log.next log.names).waiting
+            ≡ messages_in (events_in (D.seen disk))) }
+        ensures appended { IfOk result (λ log. log.names.appended ≡ 0) }
         ensures rests { IfOk result
             (λ log. Rests D.tells D.seen D.may_leave D.moment D.left_since disk log.disk) }
         ensures corrupt { D.tells → IfErr result (λ e. e.0 ≡ Corruption
@@ -169,7 +176,10 @@ impl<D: Disk> DiskLog<D> {
         ensures reads { IfOk result (λ log. (⟦<Self as Log>⟧.counts log).reads ≡ 0) }
         ensures settings { IfOk result (λ log. (log.segment_size ≡ segment_size)
             × (log.clean_every ≡ clean_every)) }
-        ensures appended { IfOk result (λ log. (moves_in log.names).appended ≡ 0) }
+        ensures waiting { D.tells → IfOk result
+            (λ log. (moves_in (D.seen log.disk) log.next log.names).waiting
+            ≡ messages_in (events_in (D.seen disk))) }
+        ensures appended { IfOk result (λ log. log.names.appended ≡ 0) }
         ensures rests { IfOk result
             (λ log. Rests D.tells D.seen D.may_leave D.moment D.left_since disk log.disk) }
         ensures goes_on { D.tells → IfErr result (λ e. GoesOn (D.seen e.2) e.1) }
@@ -189,15 +199,14 @@ impl<D: Disk> DiskLog<D> {
         let Ok(next) = NextFrame::new(alloc, gate) else {
             return Err((LogError::Memory, reader, disk));
         };
-        let (pages, read) = reader.into_parts();
-        let names = read.kept_for(alloc, clean_every);
+        let pages = reader.into_pages();
         Ok(DiskLog {
             alloc,
             disk,
             segment_size,
             clean_every,
             pages,
-            names,
+            names: Names::new(),
             next,
             usable: true,
             reads: 0,
@@ -238,13 +247,10 @@ impl<D: Disk> DiskLog<D> {
             (vec_len self.new.next.buffer + 18 + len ≤ vec_capacity self.new.next.buffer) }
         ensures mark_room { OnOk result
             (vec_len self.new.next.marks + 2 ≤ vec_capacity self.new.next.marks) }
-        ensures name_room { OnOk result
-            (deque_len self.new.names.messages < deque_capacity self.new.names.messages) }
-        ensures moves { moves_in self.new.names ≡ moves_in self.old.names }
+        ensures names { self.new.names ≡ self.old.names }
         ensures only { IfErr result (λ e. e ≡ Memory) }
     {
         self.next.make_room(len)?;
-        self.names.make_room()?;
         self.disk.make_room(self.next.to_write_with(len))
     }
 
@@ -278,9 +284,12 @@ impl<D: Disk> DiskLog<D> {
         ensures sound { can_append effect_of_head (chains_of self.old.pages.items) pid kind ≡ true
             → IsErrOf result Corruption → ⊥ }
         ensures only { IfErr result (λ e. (e ≡ Memory) ⊎ (e ≡ Full) ⊎ (e ≡ Corruption)) }
-        ensures named { OnOk result (0 < self.old.clean_every → moves_in self.new.names
-            ≡ moves_with (moves_in self.old.names) ((pid, place_of self.old.next) ∷ [])) }
-        ensures unnamed { OnErr result (moves_in self.new.names ≡ moves_in self.old.names) }
+        ensures at { self.new.names.at ≡ self.old.names.at }
+        ensures read { self.new.names.read ≡ self.old.names.read }
+        ensures counted { OnOk result (0 < self.old.clean_every
+            → self.new.names.appended ≡ self.old.names.appended + 1) }
+        ensures unnamed { OnErr result (self.new.names ≡ self.old.names) }
+        ensures unwritten { OnErr result (self.new.next.buffer.items ≡ self.old.next.buffer.items) }
     {
         if self.next.is_full(payload.len()) {
             return Err(LogError::Full);
@@ -290,7 +299,7 @@ impl<D: Disk> DiskLog<D> {
         let len = payload.len() as u64;
         take_head(self.alloc, &mut self.pages, pid, Head { kind, place, len })?;
         self.next.push(u8::from(kind), pid, payload);
-        self.names.push(self.clean_every, pid, place);
+        self.names.count(self.clean_every);
         Ok(place)
     }
 
@@ -312,7 +321,9 @@ impl<D: Disk> DiskLog<D> {
             (IsBeforeOrAfter (events_in (D.seen self.old.disk)) (events_of self.old.next)) }
         ensures only { IfErr result (λ e. e ≡ WriteFault) }
         ensures cause { HasCause (D.counts self.old.disk) (D.counts self.new.disk) result }
-        ensures moves { moves_in self.new.names ≡ moves_in self.old.names }
+        ensures names { self.new.names ≡ self.old.names }
+        ensures empty { events_of self.new.next ≡ [] }
+        ensures disk_reads { (D.counts self.new.disk).reads ≡ (D.counts self.old.disk).reads }
     {
         let wrote = self.next.write(&mut self.disk);
         self.usable = wrote.is_ok();

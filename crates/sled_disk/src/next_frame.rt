@@ -1,9 +1,10 @@
 //! The frame that comes next: the records that are pending, as they will be written.
 
-ghost use Rattle.std.specs.Prelude.{◌≡◌, ◌≤◌, ◌<◌, ◌+◌, ◌-◌, ◌^◌, ◌⊎◌, ◌++◌, ◌↔◌, ℕ, [], ◌∷◌, true, false, length, take, drop, replicate, Some, IfOk, OnOk, OnErr, IfErr, IsErrOf, IsTrue, vec_len, vec_capacity};
+ghost use Rattle.std.specs.Prelude.{◌≡◌, ◌≤◌, ◌<◌, ◌+◌, ◌-◌, ◌^◌, ◌⊎◌, ◌++◌, ◌↔◌, ℕ, [], ◌∷◌, true, false, length, take, drop, replicate, Some, IfOk, OnOk, OnErr, IfErr, IfSome, IfNone, IsErrOf, IsTrue, vec_len, vec_capacity};
 ghost use Rattle.sled_log.specs.Calls.{HasCause};
 ghost use Rattle.sled_log.specs.declared.log.LogError.TheVariants.{Memory, WriteFault, Corruption};
 ghost use Rattle.sled_disk.specs.declared.mark.Mark.TheVariants.{Change, Pin, Seal, Cancel};
+ghost use Rattle.sled_disk.specs.Cursor.{IsFront};
 ghost use Rattle.sled_disk.specs.Crash.{BytesLeft, IsClosed, IsShutOrOpened, IsWhole};
 ghost use Rattle.sled_disk.specs.Disk.{Only};
 ghost use Rattle.sled_disk.specs.Format.{record_bytes, IsBytes};
@@ -15,7 +16,7 @@ ghost use Rattle.sled_disk.specs.Standing.{records_behind};
 use crate::disk::Disk;
 use crate::frame::{close, empty, mark_in, push_record, put, write_frame};
 use crate::mark::Mark;
-use crate::reading::MAX_PLACE;
+use crate::reading::{MAX_PLACE, RawHead, head_in};
 use sled_base::PageId;
 use sled_base::growth::reserve;
 use sled_log::LogError;
@@ -219,6 +220,22 @@ impl NextFrame {
     {
         let from = at as usize + 17;
         &self.buffer[from..from + len as usize]
+    }
+
+    // The head of the pending record that stands at a place behind the gate, and its payload's length.
+    pub(crate) fn head(&self, at: u64) -> Option<(RawHead, u64)>
+        requires { self.now.gate < at }
+        ensures some { IfSome result
+            (λ x. IsFront (drop (at - (self.now.gate + 1)) self.now.buffer.items) x.0 x.1) }
+        ensures none { IfNone result
+            (length self.now.buffer.items < at - (self.now.gate + 1) + 17) }
+    {
+        let from = (at - self.gate - 1) as usize;
+        let len = self.buffer.len();
+        if from > len || len - from < 17 {
+            return None;
+        }
+        Some(head_in(&self.buffer[from..]))
     }
 
     // Writes the pending records as a frame behind the present gate, which is closed, and opens the gate once they are durable.

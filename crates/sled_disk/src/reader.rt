@@ -7,14 +7,13 @@ ghost use Rattle.sled_disk.specs.Opened.{AreHeadsBy};
 ghost use Rattle.sled_disk.specs.Reading.{chains_of};
 
 use crate::head::Head;
-use crate::names::Names;
 use crate::targets::Targets;
 use crate::window::Window;
 use std::alloc::Global;
 
 mod steps;
 
-/// A reader of the file on a disk. It keeps its place, the heads of the records before it and where their messages stand, so after a read that failed, or
+/// A reader of the file on a disk. It keeps its place and the heads of the records before it, so after a read that failed, or
 /// without memory, it goes on where it was. `DiskLog::open_with` makes the log of the file.
 ///
 /// Of the file it holds a window of 64 KiB at most, however long frames and payloads are; payloads are skipped. Besides it keeps
@@ -32,11 +31,8 @@ pub struct Reader {
     // the place of the last gate that was open; before any, of the first
     opened: u64,
     pages: Vec<Vec<Head>>,
-    // the messages of pages
-    names: Names,
     // the places that the marks of the frame named, and that are still to come
     targets: Targets,
-    ghost unnamed: { names.appended ≡ 0 },
     ghost within: { at ≤ body_end },
     ghost inside: { body_end ≤ end },
     ghost heads: { AllByRecursion (AreHeadsBy at) (chains_of pages.items) } by { Prim.hlevel props },

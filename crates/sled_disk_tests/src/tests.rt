@@ -6,6 +6,7 @@ mod files;
 mod forgetful;
 mod marks;
 mod moves;
+mod naming;
 mod opening;
 mod reading;
 mod room;

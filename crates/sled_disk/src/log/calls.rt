@@ -1,6 +1,6 @@
 // The log on a disk as a log.
 
-ghost use Rattle.std.specs.Prelude.{◌≡◌, ◌≢◌, ◌≤◌, ◌<◌, ◌+◌, ◌^◌, ◌⊎◌, ◌↔◌, ℕ, ℤ, pos, [], ◌∷◌, true, false, length, slice_index_or, Ok, IfOk, IfErr, OnOk, IsErrOf, IsOk, IfSome, IfNone};
+ghost use Rattle.std.specs.Prelude.{◌≡◌, ◌≢◌, ◌≤◌, ◌<◌, ◌+◌, ◌*◌, ◌^◌, ◌⊎◌, ◌↔◌, ℕ, ℤ, pos, [], ◌∷◌, true, false, length, slice_index_or, Ok, IfOk, IfErr, OnOk, IsErrOf, IsOk, IfSome, IfNone};
 ghost use Rattle.std.specs.List.{All, AllByRecursion, AllZip, Any};
 ghost use Rattle.sled_log.specs.Events.{is_open};
 ghost use Rattle.sled_log.specs.Calls.{can_append, Appends, Pins, Seals, Cancels, AddsNothing, ReadsOnce};
@@ -20,7 +20,7 @@ ghost use Rattle.sled_disk.specs.Standing.{events_in};
 ghost use Rattle.sled_disk.specs.OnDisk.{Rests};
 ghost use Rattle.sled_disk.specs.Ready.{LeavesPages, IsBeforeOrAfter};
 ghost use Rattle.sled_disk.specs.ReadyLaws.{log-keeps, log-only, log-due};
-ghost use Rattle.sled_disk.specs.Names.{moves_in};
+ghost use Rattle.sled_disk.specs.Names.{moves_in, read_of, most_steps, IsDueOfAll};
 ghost use Rattle.sled_disk.specs.Waiting.{state_of, place_of, said_of, size_of, events_of, events_with, IsDue, IsFullFor};
 
 use super::DiskLog;
@@ -29,14 +29,6 @@ use crate::disk::{Disk, count};
 use crate::recovery::pages_of;
 use sled_base::{BlobPointer, DiskPtr, LogOffset, Lsn, MessageKind, PageId};
 use sled_log::{Log, LogError, PageState, Payload};
-
-// What an append answers of a record at a place.
-fn said_at(place: u64, len: usize) -> (Lsn, DiskPtr, u64)
-    requires { place + 17 + len < 2 ^ 63 }
-    ensures { result ≡ (pos place, Inline place, 17 + len) }
-{
-    (place as Lsn, DiskPtr::Inline(place), 17 + len as u64)
-}
 
 impl<D: Disk> Log for DiskLog<D> {
     ghost tells = { D.tells };
@@ -59,9 +51,9 @@ impl<D: Disk> Log for DiskLog<D> {
 
     ghost is_full_for_batch = { λ log. IsFullFor log.next 8 };
 
-    ghost due = { λ log. due_among (length log.pages.items) log.clean_every (moves_in log.names) };
+    ghost due = { λ log. due_among (length log.pages.items) log.clean_every (read_of log.names) };
 
-    ghost due_is_held = { λ log pid place told usable is. log-due (D.seen log.disk) log.next.gate log.next.marks.items log.next.buffer.items log.usable log.pages.items (λ i. D.are_bytes log.disk i told) (log.stands told usable) log.next.counted log.clean_every (moves_in log.names) pid place is };
+    ghost due_is_held = { λ log pid place told usable is. log-due (D.seen log.disk) log.next.gate log.next.marks.items log.next.buffer.items log.usable log.pages.items (λ i. D.are_bytes log.disk i told) (log.stands told usable) log.next.counted log.clean_every (read_of log.names) pid place is };
 
     ghost keeps_stable = { λ log told usable. log-keeps (D.seen log.disk) _ _ _ (λ i. D.are_bytes log.disk i told) (log.stands told usable) (D.left_since log.disk (D.moment log.disk)) (D.left_now log.disk (D.seen log.disk) told (D.seen_now log.disk told)) };
 
@@ -98,17 +90,28 @@ impl<D: Disk> Log for DiskLog<D> {
         ensures settings { (self.new.segment_size ≡ self.old.segment_size)
             × (self.new.clean_every ≡ self.old.clean_every) }
         ensures said { IfOk result (λ said. said ≡ said_of self.old.next payload.now) }
-        ensures named { OnOk result (0 < self.old.clean_every → moves_in self.new.names
-            ≡ moves_with (moves_in self.old.names) ((pid, place_of self.old.next) ∷ [])) }
-        ensures unnamed { IfErr result
-            (λ e. e ≢ WriteFault → moves_in self.new.names ≡ moves_in self.old.names) }
+        ensures named { D.tells → OnOk result (0 < self.old.clean_every
+            → moves_in (D.seen self.new.disk) self.new.next self.new.names
+            ≡ moves_with (moves_in (D.seen self.old.disk) self.old.next self.old.names)
+            ((pid, place_of self.old.next) ∷ [])) }
+        ensures unnamed { D.tells → IfErr result (λ e. e ≢ WriteFault
+            → moves_in (D.seen self.new.disk) self.new.next self.new.names
+            ≡ moves_in (D.seen self.old.disk) self.old.next self.old.names) }
+        ensures counted { OnOk result (0 < self.old.clean_every
+            → self.new.names.appended ≡ self.old.names.appended + 1) }
+        ensures kept { IfErr result (λ e. e ≢ WriteFault → self.new.names ≡ self.old.names) }
+        ensures due { D.tells → OnOk result (IsDueOfAll (⟦<Self as Log>⟧.due self.new)
+            (due_among (length self.new.pages.items) self.new.clean_every
+            (moves_in (D.seen self.new.disk) self.new.next self.new.names))
+            self.old.names self.new.names
+            (D.counts self.old.disk) (D.counts self.new.disk)) }
+        ensures disk_reads { (D.counts self.new.disk).reads
+            ≤ (D.counts self.old.disk).reads + 2 * most_steps }
+        ensures no_read { self.old.clean_every ≡ 0
+            → (D.counts self.new.disk).reads ≡ (D.counts self.old.disk).reads }
     {
-        let place = self.add(kind, pid, payload)?;
-        let said = said_at(place, payload.len());
-        if self.next.batch_open() || (self.next.len() as u64) < self.segment_size {
-            return Ok(said);
-        }
-        self.write_next()?;
+        let said = self.put(kind, pid, payload)?;
+        self.read_name();
         Ok(said)
     }
 
@@ -137,7 +140,10 @@ impl<D: Disk> Log for DiskLog<D> {
             → self.new.disk ≡ self.old.disk }
         ensures sound { Any (λ head. pointer ≡ Inline head.place) (slice_index_or
             (chains_of self.old.pages.items) pid []) → IsErrOf result Corruption → ⊥ }
-        ensures unnamed { moves_in self.new.names ≡ moves_in self.old.names }
+        ensures unnamed { D.tells
+            → moves_in (D.seen self.new.disk) self.new.next self.new.names
+            ≡ moves_in (D.seen self.old.disk) self.old.next self.old.names }
+        ensures names { self.new.names ≡ self.old.names }
     {
         match self.read_to(pid, lsn, pointer, &mut []) {
             Ok((kind, payload)) => Ok((kind, payload.into_vec(self.alloc))),
@@ -171,7 +177,10 @@ impl<D: Disk> Log for DiskLog<D> {
             → self.new.disk ≡ self.old.disk }
         ensures sound { Any (λ head. pointer ≡ Inline head.place) (slice_index_or
             (chains_of self.old.pages.items) pid []) → IsErrOf result Corruption → ⊥ }
-        ensures unnamed { moves_in self.new.names ≡ moves_in self.old.names }
+        ensures unnamed { D.tells
+            → moves_in (D.seen self.new.disk) self.new.next self.new.names
+            ≡ moves_in (D.seen self.old.disk) self.old.next self.old.names }
+        ensures names { self.new.names ≡ self.old.names }
     {
         count(&mut self.reads);
         let DiskPtr::Inline(at) = pointer else {
@@ -197,7 +206,10 @@ impl<D: Disk> Log for DiskLog<D> {
         ensures only { IfErr result (λ e. e ≡ WriteFault) }
         ensures any_moment { D.tells → BytesLeft D.moment D.left_since self.old.disk self.new.disk
             (IsBeforeOrAfter (events_in (D.seen self.old.disk)) (events_of self.old.next)) }
-        ensures unnamed { moves_in self.new.names ≡ moves_in self.old.names }
+        ensures unnamed { D.tells → OnOk result
+            (moves_in (D.seen self.new.disk) self.new.next self.new.names
+            ≡ moves_in (D.seen self.old.disk) self.old.next self.old.names) }
+        ensures names { self.new.names ≡ self.old.names }
     {
         let bytes = self.next.to_write();
         if bytes == 0 {
@@ -219,7 +231,10 @@ impl<D: Disk> Log for DiskLog<D> {
             self.new.disk }
         ensures full { IsErrOf result Full ↔ IsFullFor self.old.next 8 }
         ensures refusals { IfErr result (λ e. (e ≡ Memory) ⊎ (e ≡ Full)) }
-        ensures unnamed { moves_in self.new.names ≡ moves_in self.old.names }
+        ensures unnamed { D.tells
+            → moves_in (D.seen self.new.disk) self.new.next self.new.names
+            ≡ moves_in (D.seen self.old.disk) self.old.next self.old.names }
+        ensures names { self.new.names ≡ self.old.names }
     {
         if self.next.is_full(8) {
             return Err(LogError::Full);
@@ -239,7 +254,10 @@ impl<D: Disk> Log for DiskLog<D> {
         ensures settings { (self.new.segment_size ≡ self.old.segment_size)
             × (self.new.clean_every ≡ self.old.clean_every) }
         ensures ok { IsOk result }
-        ensures unnamed { moves_in self.new.names ≡ moves_in self.old.names }
+        ensures unnamed { D.tells
+            → moves_in (D.seen self.new.disk) self.new.next self.new.names
+            ≡ moves_in (D.seen self.old.disk) self.old.next self.old.names }
+        ensures names { self.new.names ≡ self.old.names }
     {
         self.next.seal();
         Ok(())
@@ -255,7 +273,10 @@ impl<D: Disk> Log for DiskLog<D> {
         ensures settings { (self.new.segment_size ≡ self.old.segment_size)
             × (self.new.clean_every ≡ self.old.clean_every) }
         ensures ok { IsOk result }
-        ensures unnamed { moves_in self.new.names ≡ moves_in self.old.names }
+        ensures unnamed { D.tells
+            → moves_in (D.seen self.new.disk) self.new.next self.new.names
+            ≡ moves_in (D.seen self.old.disk) self.old.next self.old.names }
+        ensures names { self.new.names ≡ self.old.names }
     {
         self.next.cancel();
         Ok(())
@@ -267,9 +288,10 @@ impl<D: Disk> Log for DiskLog<D> {
         ensures named { result ≡ ⟦<Self as Log>⟧.due self.old }
         ensures called { AddsNothing D.tells ⟦<Self as Log>⟧.state ⟦<Self as Log>⟧.moment
             ⟦<Self as Log>⟧.left_since ⟦<Self as Log>⟧.counts self.old self.new (Ok result) }
-        ensures moves_on { IfSome result
-            (λ named. Named named (moves_in self.old.names) (moves_in self.new.names)) }
-        ensures unnamed { IfNone result (moves_in self.new.names ≡ moves_in self.old.names) }
+        ensures moves_on { IfSome result (λ named. Named named
+            (moves_in (D.seen self.old.disk) self.old.next self.old.names)
+            (moves_in (D.seen self.new.disk) self.new.next self.new.names)) }
+        ensures unnamed { IfNone result (self.new.names ≡ self.old.names) }
         ensures disk { self.new.disk ≡ self.old.disk }
         ensures next { self.new.next ≡ self.old.next }
         ensures counts { ⟦<Self as Log>⟧.counts self.new ≡ ⟦<Self as Log>⟧.counts self.old }
@@ -305,7 +327,10 @@ impl<D: Disk> Log for DiskLog<D> {
             × (self.new.clean_every ≡ self.old.clean_every) }
         ensures room { (n : ℕ) → IsFullFor self.new.next n → IsFullFor self.old.next n }
         ensures only { IfErr result (λ e. e ≡ Memory) }
-        ensures unnamed { moves_in self.new.names ≡ moves_in self.old.names }
+        ensures unnamed { D.tells
+            → moves_in (D.seen self.new.disk) self.new.next self.new.names
+            ≡ moves_in (D.seen self.old.disk) self.old.next self.old.names }
+        ensures names { self.new.names ≡ self.old.names }
     {
         pages_of(self.alloc, &self.pages)
     }

@@ -5,7 +5,6 @@ ghost use Rattle.std.specs.List.{AllByRecursion};
 ghost use Rattle.sled_log.specs.Payloads.{payload_in};
 ghost use Rattle.sled_log.specs.declared.log.LogError.TheVariants.{Memory, ReadFault, Corruption};
 ghost use Rattle.sled_disk.specs.Found.{IsHeadOf};
-ghost use Rattle.sled_disk.specs.Names.{moves_in};
 ghost use Rattle.sled_disk.specs.OnDisk.{Rests, ReadFaults};
 ghost use Rattle.sled_disk.specs.Opened.{EndsBy, IsPlaced};
 ghost use Rattle.sled_disk.specs.Reading.{chains_of};
@@ -74,7 +73,7 @@ impl<D: Disk> DiskLog<D> {
         requires placed { IsPlaced head }
         requires ends { EndsBy (place_of self.old.next) head }
         ensures next { self.new.next ≡ self.old.next }
-        ensures moves { moves_in self.new.names ≡ moves_in self.old.names }
+        ensures names { self.new.names ≡ self.old.names }
         ensures settings { (self.new.segment_size ≡ self.old.segment_size)
             × (self.new.clean_every ≡ self.old.clean_every) }
         ensures usable { self.new.usable ≡ true }

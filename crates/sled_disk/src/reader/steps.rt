@@ -2,7 +2,6 @@
 
 ghost use Rattle.std.specs.Prelude.{◌≡◌, ◌≢◌, ℕ, ◌+◌, ◌≤◌, ◌<◌, ◌^◌, ◌⊎◌, ◌&&◌, ◌||◌, ◌==◌, Bool, true, false, Some, None, List, [], ◌++◌, length, take, drop, IfOk, IfErr, OnOk, OnErr, IsErrOf};
 ghost use Rattle.std.specs.List.{AllByRecursion, list_all};
-ghost use Rattle.std.specs.VecDeque.{deque_len, deque_capacity};
 ghost use Rattle.sled_log.specs.Events.{Event};
 ghost use Rattle.sled_log.specs.Messages.{Entry};
 ghost use Rattle.sled_log.specs.Calls.{HasCause};
@@ -10,8 +9,6 @@ ghost use Rattle.sled_log.specs.declared.log.LogError.TheVariants.{Memory, ReadF
 ghost use Rattle.sled_disk.specs.Disk.{Only, LeavesTheSame};
 ghost use Rattle.sled_disk.specs.Format.{Describes};
 ghost use Rattle.sled_disk.specs.GoesOn.{GoesOn};
-ghost use Rattle.sled_disk.specs.Names.{moves_in, named_by};
-ghost use Rattle.sled_base.specs.Kinds.{log_kind_of};
 ghost use Rattle.sled_disk.specs.OnDisk.{Rests, ReadFaults};
 ghost use Rattle.sled_disk.specs.Opened.{AllEndBy, AreHeads, AreRead};
 ghost use Rattle.sled_disk.specs.Reading.{chains_of, found_at, Holds};
@@ -19,13 +16,12 @@ ghost use Rattle.sled_disk.specs.Reading.{chains_of, found_at, Holds};
 use super::Reader;
 use crate::disk::Disk;
 use crate::head::Head;
-use crate::names::Names;
 use crate::pages::take_head;
 use crate::parts::{body_on, gate_on, head_on, number_on};
 use crate::reading::{MAX_PLACE, OPENING, is_mark};
 use crate::targets::Targets;
 use crate::window::Window;
-use sled_base::{LogKind, MessageKind, PageId};
+use sled_base::MessageKind;
 use sled_log::LogError;
 use std::alloc::Global;
 
@@ -44,19 +40,6 @@ fn name(targets: &mut Targets, at: u64, target: u64) -> Result<(), LogError>
         return Ok(());
     }
     Ok(targets.push(target)?)
-}
-
-// Adds the message of a page, if it is one. There is room.
-fn note(names: &mut Names, head: Head, page: PageId)
-    requires { deque_len names.old.messages < deque_capacity names.old.messages }
-    ensures noted { (moves_in names.new).waiting ≡ (moves_in names.old).waiting
-        ++ named_by (log_kind_of head.kind) page head.place }
-    ensures appended { (moves_in names.new).appended ≡ (moves_in names.old).appended }
-{
-    match LogKind::from(head.kind) {
-        LogKind::Free | LogKind::Replace | LogKind::Link => names.push_read(page, head.place),
-        LogKind::Skip | LogKind::Corrupted => {}
-    }
 }
 
 impl Reader {
@@ -90,7 +73,6 @@ impl Reader {
             body_end: 8,
             opened: 8,
             pages: Vec::new(alloc),
-            names: Names::new(alloc),
             targets: Targets::new(alloc),
         })
     }
@@ -165,9 +147,7 @@ impl Reader {
             place: self.at,
             len,
         };
-        self.names.make_room()?;
         take_head(self.alloc, &mut self.pages, raw.page, head)?;
-        note(&mut self.names, head, raw.page);
         self.at += 17 + len;
         Ok(())
     }
@@ -242,11 +222,10 @@ impl Reader {
         disk.sync()
     }
 
-    /// The pages that were read, by the heads of their chains, and all messages of pages.
-    pub(crate) fn into_parts(self) -> (Vec<Vec<Head>>, Names)
-        ensures pages { result.0 ≡ self.pages }
-        ensures names { result.1 ≡ self.names }
+    /// The pages that were read, by the heads of their chains.
+    pub(crate) fn into_pages(self) -> Vec<Vec<Head>>
+        ensures { result ≡ self.pages }
     {
-        (self.pages, self.names)
+        self.pages
     }
 }

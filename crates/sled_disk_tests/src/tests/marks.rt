@@ -41,7 +41,7 @@ fn pages_in(alloc: Global, mut file: Vec<u8>) -> Option<usize> {
 }
 
 // One frame of so many marks of batches, which all name the last of them, or the place behind it.
-fn marks(alloc: Global, count: u32, is_good: bool) -> Option<Vec<u8>> {
+pub(super) fn marks(alloc: Global, count: u32, is_good: bool) -> Option<Vec<u8>> {
     let len = 25 * u64::from(count);
     let mut file = front(alloc, len)?;
     let behind = 17 + len;

@@ -24,6 +24,23 @@ impl KeepingDisk {
         })
     }
 
+    // A disk that holds these bytes.
+    pub(super) fn of(alloc: Global, bytes: &[u8]) -> Result<KeepingDisk, LogError> {
+        let mut inner = MemDisk::new(alloc, bytes.len().saturating_add(65_536))?;
+        inner.write_at(0, bytes)?;
+        inner.sync()?;
+        Ok(KeepingDisk {
+            inner,
+            most: 65_536,
+            room: 0,
+        })
+    }
+
+    // Lets the n-th read from now fail.
+    pub(super) fn fail_read(&mut self, n: u64) {
+        self.inner.fail_read(n);
+    }
+
     // The bytes that it holds.
     pub(super) fn bytes(&self) -> &[u8] {
         self.inner.bytes()

@@ -9,7 +9,7 @@ use super::steps::Sight::{Empty, Pair};
 use super::*;
 
 // Which part of the work met a fault. Every message is written at once, and makes one due.
-#[derive(Clone, Copy, Debug, PartialEq, Eq, PartialOrd)]
+#[derive(Clone, Copy, Debug, PartialEq, Eq)]
 enum Fault {
     Before,
     Replacement,
@@ -147,15 +147,17 @@ fn met_unread(alloc: Global, n: u64) -> Option<Fault> {
     }
 }
 
+// Five reads open the cache. Two find the first message that is due: where one of them fails, each move comes a replacement later, and page
+// 2 isn't reached. Five more find the next two, each by the append of a move; where one of those fails, the replacement behind it reads
+// again. The two messages of page 2 are read for its move.
 #[test]
 fn a_read_that_fails_in_an_added_move_is_passed_over(rt: HostRuntime) {
-    let mut before = Fault::Before;
-    let mut is_met = false;
     for n in 1..40 {
-        let met = met_unread(rt.alloc(), n);
-        assert!(rt; met.is_some_and(|met| before <= met), "{n} {met:?}");
-        is_met = is_met || met == Some(Fault::Move);
-        before = met.unwrap_or(Fault::Before);
+        let met = match n {
+            1..=5 => Fault::Before,
+            6 | 7 | 13 | 14 => Fault::Move,
+            _ => Fault::Nowhere,
+        };
+        assert_eq!(rt; met_unread(rt.alloc(), n), Some(met), "{n}");
     }
-    assert_eq!(rt; (before, is_met), (Fault::Nowhere, true));
 }

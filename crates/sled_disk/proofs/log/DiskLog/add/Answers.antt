@@ -6,7 +6,7 @@ use Rattle.sled_log.specs.Calls.{can_append}
 use Rattle.sled_log.specs.Messages.{effect_of_entry}
 use Rattle.sled_disk.specs.declared.mark.Mark.{Mark}
 use Rattle.sled_disk.specs.declared.mark.Mark.TheVariants.{Change}
-use Rattle.sled_disk.specs.Format.{events_at, entry_at}
+use Rattle.sled_disk.specs.Format.{Record, events_at, entry_at}
 use Rattle.sled_disk.specs.Pending.{pending_in, state_in}
 use Rattle.std.specs.Global.{Vec}
 use Rattle.sled_disk.specs.declared.head.Head.{Head}
@@ -15,6 +15,8 @@ use Rattle.sled_disk.specs.Standing.{Stands, records_behind}
 use Rattle.sled_disk.specs.Waiting.{place_of, state_of}
 use Rattle.sled_disk.proofs.Adding.{record_of, append-taken, taken-by-head, record-stands, pending-more, frame-more, made-none, same-error}
 use Rattle.sled_disk.proofs.Kept.{step-heads, step-ends}
+use Rattle.sled_disk.specs.Cursor.{IsAmong}
+use Rattle.sled_disk.proofs.Unnamed.{among-more}
 use Rattle.sled_disk.proofs.Waiting.{place-is}
 use Rattle.sled_disk.proofs.log.DiskLog.add.Goals as goal
 
@@ -79,3 +81,13 @@ returns-clause-written g c = λ told.
     ∙ ap (λ k. records_behind log.next.buffer.items ++ record { kind = k; id = c.args.pid; payload = c.args.payload.now } ∷ []) c.from.ensures in
     ap (λ n. events_at entry_at (n + 9) (records_behind c.push.new.self.buffer.items)) gate
     ∙ frame-more log.next.gate log.next.buffer.items c.push.new.self.buffer.items c.args.kind c.args.pid (place_of log.next) c.args.payload.now (now effect_of_entry (state_of (g.D.Disk.seen log.disk) log.next log.usable)) records at (c.requires.can told)
+
+pub invariant_of-self-2-clause-stood : goal.invariant_of-self-2-clause-stood
+invariant_of-self-2-clause-stood g c = λ told usable.
+    let mid = c.make_room.new.self in
+    let seen = g.D.Disk.seen mid.disk in
+    let names = c.count.new.self in
+    let rs = records_behind c.push.new.self.buffer.items in
+    subst (λ n. IsAmong seen rs n names.at) (sym c.count.ensures.gate)
+    (subst (λ n. IsAmong seen rs mid.names.gate n) (sym c.count.ensures.at)
+    (subst (λ (l : List Record). IsAmong seen l mid.names.gate mid.names.at) (sym c.push.ensures.records) (among-more seen (records_behind mid.next.buffer.items) _ mid.names.gate mid.names.at (mid.stood told usable))))

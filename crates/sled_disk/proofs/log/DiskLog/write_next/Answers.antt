@@ -7,7 +7,9 @@ use Rattle.sled_disk.specs.Ready.{IsBeforeOrAfter}
 use Rattle.sled_disk.specs.Standing.{Stands, records_behind, events_in}
 use Rattle.sled_disk.specs.Waiting.{place_of}
 use Rattle.sled_disk.proofs.Kept.{all-later}
-use Rattle.sled_disk.proofs.Written.{on_ok, on_ok_map, written-stands, written-events, before-or-after, closes, left-so}
+use Rattle.sled_disk.specs.ReadyLaws.{none-behind}
+use Rattle.sled_disk.proofs.Unnamed.{among-written}
+use Rattle.sled_disk.proofs.Written.{on_ok, on_ok_map, written-stands, written-events, written-frames, before-or-after, closes, left-so}
 use Rattle.sled_disk.proofs.log.DiskLog.write_next.Goals as goal
 
 pub write-wrote-requires-clause-closed : goal.write-wrote-requires-clause-closed
@@ -50,3 +52,16 @@ invariant_of-self-clause-ends g c = λ usable.
     let ok = sym c.is_ok-self.ensures.value ∙ usable in
     let gate : next.gate ≡ log.next.gate + 1 + length log.next.buffer.items = on_ok c.write-wrote.result c.write-wrote.ensures.gate ok in
     all-later (place_of log.next) (place_of next) (chains_of log.pages.items) (omega (arith, gate)) (log.ends c.requires.usable)
+
+pub invariant_of-self-clause-stood : goal.invariant_of-self-clause-stood
+invariant_of-self-clause-stood g c = λ told usable.
+    let log = c.args.self.now in
+    let next = c.write-wrote.new.self in
+    let seen = g.D.Disk.seen log.disk in
+    let after = g.D.Disk.seen c.write-wrote.new.disk in
+    let ok = sym c.is_ok-self.ensures.value ∙ usable in
+    let long = c.write-wrote.ensures.buffer in
+    let rs = records_behind log.next.buffer.items in
+    among-written seen after rs (records_behind next.buffer.items) log.names.gate log.names.at (none-behind next.buffer.items (omega (arith, long)))
+    (written-frames seen log.next.gate log.next.buffer.items (chains_of log.pages.items) (λ i. g.met.D.Disk.are_bytes log.disk i told) (log.stands told c.requires.usable) log.next.are_bytes log.next.parsed c.requires.some (log.next.fits c.requires.some) after (on_ok c.write-wrote.result (c.write-wrote.ensures.written told) ok))
+    (log.stood told c.requires.usable)

@@ -39,5 +39,5 @@ returns-clause-goes_on g c = λ told.
       opens = opens;
       end = c.in_ok-end.ensures.len told ∙ ap (λ (l : List ℕ). length l) (sym (same ∙ c.in_ok-end.ensures.seen told));
       shows = shows-still window (g.D.Disk.seen c.len.new.self) seen (sym same) (c.in_ok-from.ensures.shows told);
-      left = ap (λ (targets : List ℕ). left_at seen 8 8 targets (chains_of c.new.result.items)) c.new-3.ensures ∙ left-gate seen 8 (chains_of c.new.result.items) ∙ ap (λ (pages : List (Vec Head)). found_at 8 (chains_of pages) (drop 8 seen)) c.new.ensures.items;
+      left = ap (λ (targets : List ℕ). left_at seen 8 8 targets (chains_of c.new.result.items)) c.new-2.ensures ∙ left-gate seen 8 (chains_of c.new.result.items) ∙ ap (λ (pages : List (Vec Head)). found_at 8 (chains_of pages) (drop 8 seen)) c.new.ensures.items;
     }

@@ -44,7 +44,6 @@ invariant_of-self-2 g c =
     let has = subst (HasBody (self.at + 1) self.end) c.in-Some.is c.in_ok-len.ensures.has in
     let all = has.1 in
     record {
-      unnamed = c.args.self.now.unnamed;
       within = omega arith;
       inside = omega arith;
       heads = heads-later self.at (self.at + 9) (chains_of self.pages.items) (omega arith) self.heads;

@@ -119,14 +119,3 @@ returns-clause-goes_on g c = λ told.
       left = goes-taken (g.D.Disk.seen c.args.disk.now) self on c.in_ok-head.head raw c.in-Some.len c.in-Some.is (c.in_ok-head.ensures.head told) c.in_ok-head.ensures.has c.reach.new.self c.reach.ensures.reached c.if-is_mark.ensures.is (chains_of c.take_head.new.pages.items)
           (ap (λ (kind : MessageKind). step_head chains raw.page (record { kind = kind; place = self.at; len = c.in-Some.len })) (sym c.from.ensures) ∙ c.in_ok-take_head.ensures.made) (c.reach.ensures.behind c.if-not-reach.false);
     }
-
-pub returns-in_err-make_room-clause-goes_on : goal.returns-in_err-make_room-clause-goes_on
-returns-in_err-make_room-clause-goes_on g c = λ told.
-    let on = c.requires.goes_on told in
-    let self = c.args.self.now in
-    record {
-      opens = on.opens;
-      end = on.end;
-      shows = c.in_ok-head.ensures.shows told;
-      left = goes-reached (g.D.Disk.seen c.args.disk.now) self on c.in_ok-head.head c.in-Some.raw c.in-Some.len c.in-Some.is (c.in_ok-head.ensures.head told) c.in_ok-head.ensures.has c.reach.new.self c.reach.ensures.reached;
-    }

@@ -10,6 +10,13 @@ use Rattle.sled_disk.proofs.Adding.{pin-stands, pending-pin}
 use Rattle.sled_disk.specs.Waiting.{place_of}
 use Rattle.sled_disk.proofs.Kept.{all-later}
 use Rattle.sled_disk.proofs.Calling.{opens-by, called-refused, called-waits, rests-same}
+use Rattle.std.proofs.Common.{◌+◌}
+use Rattle.sled_log.specs.Events.{Event}
+use Rattle.sled_log.specs.Messages.{Entry}
+use Rattle.sled_disk.specs.Cursor.{IsAmong}
+use Rattle.sled_disk.specs.Format.{Record, events_at, entry_at}
+use Rattle.sled_disk.specs.Standing.{events_in}
+use Rattle.sled_disk.proofs.Unnamed.{among-more, events-begun, moves-same}
 use Rattle.sled_disk.proofs.log.calls.DiskLogLog.pin.Goals as goal
 
 pub returns-then-is_full-clause-called : goal.returns-then-is_full-clause-called
@@ -60,3 +67,26 @@ pub invariant_of-self-clause-ends : goal.invariant_of-self-clause-ends
 invariant_of-self-clause-ends g c = λ usable.
     let log = c.make_room.new.self in
     all-later (place_of log.next) (place_of c.pin.new.self) (chains_of log.pages.items) (omega (arith, c.pin.ensures.gate, c.pin.ensures.len)) (log.ends usable)
+
+pub invariant_of-self-clause-stood : goal.invariant_of-self-clause-stood
+invariant_of-self-clause-stood g c = λ told usable.
+    let mid = c.make_room.new.self in
+    let seen = g.D.Disk.seen mid.disk in
+    subst (λ (l : List Record). IsAmong seen l mid.names.gate mid.names.at) (sym c.pin.ensures.records)
+    (among-more seen (records_behind mid.next.buffer.items) begun_record mid.names.gate mid.names.at (mid.stood told usable))
+
+pub returns-clause-unnamed : goal.returns-clause-unnamed
+returns-clause-unnamed g c = λ told.
+    let log = c.args.self.now in
+    let mid = c.make_room.new.self in
+    let next = log.next in
+    let later = c.pin.new.self in
+    let seen = g.D.Disk.seen log.disk in
+    let gate = c.pin.ensures.gate ∙ c.make_room.ensures.gate in
+    let records = c.pin.ensures.records ∙ ap (λ (l : List ℕ). records_behind l ++ begun_record ∷ []) c.make_room.ensures.buffer in
+    moves-same seen (g.D.Disk.seen mid.disk) next later log.names mid.names c.make_room.ensures.names
+    (ap (λ (l : List ℕ). events_in l ++ events_at entry_at (later.gate + 9) (records_behind later.buffer.items)) (c.make_room.ensures.rests.same told)
+    ∙ ap (λ (l : List (Event Entry)). events_in seen ++ l)
+    (ap (λ n. events_at entry_at (n + 9) (records_behind later.buffer.items)) gate
+    ∙ ap (λ (l : List Record). events_at entry_at (next.gate + 9) l) records
+    ∙ events-begun (next.gate + 9) (records_behind next.buffer.items)))
