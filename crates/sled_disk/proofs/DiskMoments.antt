@@ -18,25 +18,25 @@ follows-write image at bytes left torn = torn
 only-sync : (image : Image) (left : List ℕ) → MayLeave (after_call image Sync) left → left ≡ image.seen
 only-sync image left is = is
 
-module _ (start : List ℕ) (calls : List DiskCall) (call : DiskCall) where
+module _ (first : Image) (calls : List DiskCall) (call : DiskCall) where
   len : length (calls ++ call ∷ []) ≡ length calls + 1
   len = omega (arith, length-append calls (call ∷ []))
 
   same : (at : ℕ) → at ≤ length calls → take at (calls ++ call ∷ []) ≡ take at calls
   same at le = take-append-le at calls (call ∷ []) le
 
-  last : (at t : ℕ) (left : List ℕ) → at ≤ length (calls ++ call ∷ []) → t ≤ at → MayLeave (after_calls (all_synced start) (take at (calls ++ call ∷ []))) left
-      → (at ≡ length (calls ++ call ∷ [])) ⊎ (at < length (calls ++ call ∷ [])) → WasLeft start calls t left ⊎ MayLeave (after_calls (all_synced start) (calls ++ call ∷ [])) left
-  last at t left to from may (inr lt) = let le : at ≤ length calls = omega (arith, len) in inl (record { at = at; from = from; to = le; may = subst (λ (l : List DiskCall). MayLeave (after_calls (all_synced start) l) left) (same at le) may })
-  last at t left to from may (inl is) = inr (subst (λ (l : List DiskCall). MayLeave (after_calls (all_synced start) l) left) (take_all at (calls ++ call ∷ []) (omega (arith, len))) may)
+  last : (at t : ℕ) (left : List ℕ) → at ≤ length (calls ++ call ∷ []) → t ≤ at → MayLeave (after_calls first (take at (calls ++ call ∷ []))) left
+      → (at ≡ length (calls ++ call ∷ [])) ⊎ (at < length (calls ++ call ∷ [])) → WasLeft first calls t left ⊎ MayLeave (after_calls first (calls ++ call ∷ [])) left
+  last at t left to from may (inr lt) = let le : at ≤ length calls = omega (arith, len) in inl (record { at = at; from = from; to = le; may = subst (λ (l : List DiskCall). MayLeave (after_calls first l) left) (same at le) may })
+  last at t left to from may (inl is) = inr (subst (λ (l : List DiskCall). MayLeave (after_calls first l) left) (take_all at (calls ++ call ∷ []) (omega (arith, len))) may)
 
-  pub left-push : (t : ℕ) (left : List ℕ) → WasLeft start (calls ++ call ∷ []) t left → WasLeft start calls t left ⊎ MayLeave (after_calls (all_synced start) (calls ++ call ∷ [])) left
+  pub left-push : (t : ℕ) (left : List ℕ) → WasLeft first (calls ++ call ∷ []) t left → WasLeft first calls t left ⊎ MayLeave (after_calls first (calls ++ call ∷ [])) left
   left-push t left was = last was.at t left was.to was.from was.may (eq-or-lt_of_le was.to)
 
-  pub kept-push : (t : ℕ) (left : List ℕ) → WasLeft start calls t left → WasLeft start (calls ++ call ∷ []) t left
+  pub kept-push : (t : ℕ) (left : List ℕ) → WasLeft first calls t left → WasLeft first (calls ++ call ∷ []) t left
   kept-push t left was =
       let to = was.to in
-      record { at = was.at; from = was.from; to = omega (arith, len, to); may = subst (λ (l : List DiskCall). MayLeave (after_calls (all_synced start) l) left) (sym (same was.at to)) was.may }
+      record { at = was.at; from = was.from; to = omega (arith, len, to); may = subst (λ (l : List DiskCall). MayLeave (after_calls first l) left) (sym (same was.at to)) was.may }
 
 -- A disk that made one call more.
 module _ (old new : MemDisk) (call : DiskCall) (starts : new.start.items ≡ old.start.items) (noted : calls_of new ≡ calls_of old ++ call ∷ []) where
@@ -50,15 +50,15 @@ module _ (old new : MemDisk) (call : DiskCall) (starts : new.start.items ≡ old
   now : (left : List ℕ) → may_leave_of new left → MayLeave (after_call (after_calls (all_synced old.start.items) (calls_of old)) call) left
   now left may = subst (λ image. MayLeave image left) (after_calls-push (all_synced old.start.items) (calls_of old) call) (back (λ s l. MayLeave (after_calls (all_synced s) l) left) may)
 
-  elapses-on : (t : ℕ) (left : List ℕ) → WasLeft old.start.items (calls_of old) t left ⊎ MayLeave (after_calls (all_synced old.start.items) (calls_of old ++ call ∷ [])) left → might_have_left old t left ⊎ may_leave_of new left
+  elapses-on : (t : ℕ) (left : List ℕ) → WasLeft (all_synced old.start.items) (calls_of old) t left ⊎ MayLeave (after_calls (all_synced old.start.items) (calls_of old ++ call ∷ [])) left → might_have_left old t left ⊎ may_leave_of new left
   elapses-on t left (inl was) = inl was
   elapses-on t left (inr may) = inr (moved (λ s l. MayLeave (after_calls (all_synced s) l) left) may)
 
   pub elapses : Elapses clock_of might_have_left may_leave_of old new
   elapses = record {
-    later = omega (arith, ap length noted, len old.start.items (calls_of old) call);
-    nothing_else = λ t left le was. elapses-on t left (left-push old.start.items (calls_of old) call t left (back (λ s l. WasLeft s l t left) was));
-    keeps = λ t left le was. moved (λ s l. WasLeft s l t left) (kept-push old.start.items (calls_of old) call t left was);
+    later = omega (arith, ap length noted, len (all_synced old.start.items) (calls_of old) call);
+    nothing_else = λ t left le was. elapses-on t left (left-push (all_synced old.start.items) (calls_of old) call t left (back (λ s l. WasLeft (all_synced s) l t left) was));
+    keeps = λ t left le was. moved (λ s l. WasLeft (all_synced s) l t left) (kept-push (all_synced old.start.items) (calls_of old) call t left was);
   }
 
 -- what a write that was made leaves

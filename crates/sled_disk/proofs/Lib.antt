@@ -6,7 +6,6 @@ pub mod Shown
 pub mod Sized
 pub mod Placed
 pub mod FrameWrite
-mod Overlays
 mod Journal
 mod Staged
 mod ShortWrites
@@ -24,7 +23,11 @@ mod Reached
 mod Created
 mod Kept
 mod WrittenAgain
+mod Told
+mod StagedMoments
 pub mod Among
 pub mod Naming
 pub mod Unnamed
 mod ThenRead
+mod TornParts
+mod Doing

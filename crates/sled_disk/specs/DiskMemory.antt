@@ -27,7 +27,7 @@ abbrev pub may_leave_of : MemDisk → List ℕ → Type 0
 may_leave_of disk left = MayLeave (image_now disk) left
 
 abbrev pub might_have_left : MemDisk → ℕ → List ℕ → Type 0
-might_have_left disk since left = WasLeft disk.start.items (calls_of disk) since left
+might_have_left disk since left = WasLeft (all_synced disk.start.items) (calls_of disk) since left
 
 abbrev pub counts_of : MemDisk → Counts
 counts_of disk = record { reads = disk.reads; failed_reads = disk.failed_reads; write_faults = disk.write_faults }

@@ -1,12 +1,13 @@
 -- Pieces of a file that were handed in, and what a read is to give.
-use Rattle.std.specs.Prelude.{◌≡◌, ◌⊎◌, ◌≤◌, ◌<◌, ◌+◌, ⊤, ℕ, Bool, nat_le, ◌||◌, List, [], ◌∷◌, None, length, take, get_or}
+use Rattle.std.specs.Prelude.{◌≡◌, ◌⊎◌, ◌≤◌, ◌<◌, ◌+◌, ⊤, ℕ, Bool, true, false, nat_le, ◌||◌, List, [], ◌∷◌, ◌++◌, length, take, drop, get_or}
 use Rattle.std.specs.List.{All}
-use Rattle.sled_disk.specs.Disk.{overlaid}
-use Rattle.sled_disk.specs.Journal.{DiskCall, Write, Sync}
-use Rattle.sled_disk.specs.Staged.{IsFed, tasks_in, waiting}
-use Rattle.sled_disk.specs.declared.disk.staged.StagedDisk.{StagedDisk}
+use Rattle.sled_disk.specs.Disk.{Follows, LeavesNoMore, Only, Torn, overlaid}
+use Rattle.sled_disk.specs.Journal.{DiskCall, Write, Again, Sync}
+use Rattle.sled_disk.specs.CallersFile.{bytewise}
+use Rattle.sled_disk.specs.Tasks.{tasks_in, write_if}
 use Rattle.sled_disk.specs.declared.disk.staged.pieces.Piece.{Piece}
 use Rattle.sled_disk.specs.declared.disk.staged.pieces.Pieces.{Pieces}
+use Rattle.sled_disk.specs.declared.disk.staged.stage.Stage.{Stage}
 use Rattle.sled_disk.specs.declared.disk.staged.tasks.Task.{Task}
 use Rattle.sled_disk.specs.declared.disk.staged.tasks.Task.TheVariants as task
 use Rattle.sled_disk.specs.declared.disk.staged.tasks.Tasks.{Tasks}
@@ -31,6 +32,7 @@ SameOutside from to old new = (i : ℕ) → (i < from) ⊎ (to ≤ i) → get_or
 abbrev pub after_tasks : List ℕ → List DiskCall → List ℕ
 after_tasks file [] = file
 after_tasks file (Write at bytes ∷ later) = after_tasks (overlaid file at bytes) later
+after_tasks file (Again at bytes ∷ later) = after_tasks file later
 after_tasks file (Sync ∷ later) = after_tasks file later
 
 -- a file once its caller has done a task, the bytes of which stand at the front of a buffer
@@ -42,55 +44,59 @@ after_task file task.Sync buffer = file
 abbrev pub seen_in : List ℕ → Tasks → List ℕ
 seen_in file tasks = after_tasks file (tasks_in tasks)
 
--- each write begins within the file, or at its end
+-- bytes that are at a place of a file
+abbrev pub IsThere : ℕ → List ℕ → List ℕ → Type 0
+IsThere at bytes file = take (length bytes) (drop at file) ≡ bytes
+
+-- each write begins within the file, or at its end, and what is written again is there
 abbrev pub AreWithin : List ℕ → List DiskCall → Type 0
 AreWithin file [] = ⊤
 AreWithin file (Write at bytes ∷ later) = (at ≤ length file) × AreWithin (overlaid file at bytes) later
+AreWithin file (Again at bytes ∷ later) = IsThere at bytes file × AreWithin file later
 AreWithin file (Sync ∷ later) = AreWithin file later
+
+-- A write was done to a file with these bytes: what is added to what was done, byte by byte. Bytes that are written again are there, and one.
+pub record AddsWrite (file : List ℕ) (at : ℕ) (bytes : List ℕ) (old new : List DiskCall) : Type 0 where
+  pub again : Bool
+  pub done : new ≡ old ++ bytewise (write_if again at bytes ∷ [])
+  pub begins : again ≡ false → at ≤ length file
+  pub there : again ≡ true → IsThere at bytes file
+  pub alone : again ≡ true → length bytes ≤ 1
+
+-- a task was, the bytes of which stand at the front of a buffer
+abbrev pub AddsTask : List ℕ → Task → List ℕ → List DiskCall → List DiskCall → Type 0
+AddsTask file (task.Write at len) buffer old new = AddsWrite file at (take len buffer) old new
+AddsTask file task.Sync buffer old new = new ≡ old ++ Sync ∷ []
+
+-- its bytes fit into the buffer
+abbrev pub FitsIn : Task → List ℕ → Type 0
+FitsIn (task.Write at len) buffer = len ≤ length buffer
+FitsIn task.Sync buffer = ⊤
+
+-- What a write may leave of a disk that showed these bytes, done or not: what was left before, torn; and of a byte that is there, no more.
+pub record LeavesWrite (at : ℕ) (bytes file : List ℕ) (old new : List ℕ → Type 0) : Type 0 where
+  pub torn : Follows (Torn at (length bytes)) old new
+  pub again : length bytes ≤ 1 → IsThere at bytes file → LeavesNoMore old new
+
+-- and what a task may
+abbrev pub LeavesTask : Task → List ℕ → List ℕ → (List ℕ → Type 0) → (List ℕ → Type 0) → Type 0
+LeavesTask (task.Write at len) buffer file old new = LeavesWrite at (take len buffer) file old new
+LeavesTask task.Sync buffer file old new = LeavesNoMore old new
+
+-- and what a sync does that was done
+abbrev pub SettlesTask : Task → List ℕ → (List ℕ → Type 0) → Type 0
+SettlesTask (task.Write at len) file new = ⊤
+SettlesTask task.Sync file new = Only file new
 
 -- a task that changes no byte from one place up to another
 abbrev pub LeavesBetween : ℕ → ℕ → DiskCall → Type 0
 LeavesBetween from to (Write at bytes) = (at + length bytes ≤ from) ⊎ (to ≤ at)
+LeavesBetween from to (Again at bytes) = ⊤
 LeavesBetween from to Sync = ⊤
 
--- Bytes of a file were handed in at a place: where all pieces stood in it, they do so with these. The disk is the same but for that.
-pub record TakesIn (at : ℕ) (bytes : List ℕ) (old new : StagedDisk) : Type 0 where
-  pub fed : IsFed old new
-  pub pieces : (file : List ℕ) → AreWithin file (waiting old) → StandsAt at bytes file
-      → ArePieces old.stage.pieces (seen_in file old.stage.tasks) → ArePieces new.stage.pieces (seen_in file old.stage.tasks)
-
--- All pieces were let go, and what was needed. The disk is the same but for that.
-pub record Forgets (old new : StagedDisk) : Type 0 where
-  pub fed : IsFed old new
-  pub pieces : new.stage.pieces.pieces.items ≡ []
-  pub needs : new.stage.needs ≡ None
-
--- what a read is to give of a file with the tasks of a disk still before it
-abbrev pub seen_over : List ℕ → StagedDisk → List ℕ
-seen_over file disk = seen_in file disk.stage.tasks
-
--- The disk stands over this file, which is so once all is done that was handed out: what waits lies within it, the pieces are bytes that a
+-- The file of these tasks and pieces is this one, once all is done that was handed out: what waits lies within it, the pieces are bytes that a
 -- read is to give, and their number is the length.
-pub record IsOver (file : List ℕ) (disk : StagedDisk) : Type 0 where
-  pub within : AreWithin file (waiting disk)
-  pub pieces : ArePieces disk.stage.pieces (seen_over file disk)
-  pub len : disk.len ≡ length (seen_over file disk)
-
--- It does so behind a call, and a read is to give the same.
-pub record StaysOver (file : List ℕ) (old new : StagedDisk) : Type 0 where
-  pub over : IsOver file new
-  pub seen : seen_over file new ≡ seen_over file old
-
--- A read gives these bytes of it at a place.
-abbrev pub ReadsOver : List ℕ → StagedDisk → ℕ → List ℕ → Type 0
-ReadsOver file disk at bytes = StandsAt at bytes (seen_over file disk)
-
--- It has these bytes at a place then.
-pub record WritesOver (file : List ℕ) (at : ℕ) (bytes : List ℕ) (old new : StagedDisk) : Type 0 where
-  pub over : IsOver file new
-  pub written : seen_over file new ≡ overlaid (seen_over file old) at bytes
-
--- A task was done to the file, so it stands over what that left.
-pub record HandsOver (file : List ℕ) (task : Task) (buffer : List ℕ) (old new : StagedDisk) : Type 0 where
-  pub over : IsOver (after_task file task buffer) new
-  pub seen : seen_over (after_task file task buffer) new ≡ seen_over file old
+pub record StandOver (file : List ℕ) (stage : Stage) (size : ℕ) : Type 0 where
+  pub within : AreWithin file (tasks_in stage.tasks)
+  pub pieces : ArePieces stage.pieces (seen_in file stage.tasks)
+  pub len : size ≡ length (seen_in file stage.tasks)

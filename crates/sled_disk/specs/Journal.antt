@@ -4,9 +4,10 @@ use Rattle.sled_disk.specs.Disk.{overlaid, Torn}
 use Rattle.sled_disk.specs.declared.disk.journal.Call.{Call as StoredCall}
 use Rattle.sled_disk.specs.declared.disk.journal.Call.TheVariants as stored
 
--- a write or a sync that was made
+-- a write, one of bytes that are there, or a sync
 pub data DiskCall : Type 0 where
   Write : (at : ℕ) (bytes : List ℕ) → DiskCall
+  Again : (at : ℕ) (bytes : List ℕ) → DiskCall
   Sync : DiskCall
 
 -- The bytes of all writes stand one behind the other, and a call says where its own begin and end.
@@ -43,6 +44,7 @@ all_synced bytes = record { seen = bytes; synced = bytes; unsynced = [] }
 
 abbrev pub after_call : Image → DiskCall → Image
 after_call image (Write at bytes) = record { seen = overlaid image.seen at bytes; synced = image.synced; unsynced = (at, length bytes) ∷ image.unsynced }
+after_call image (Again at bytes) = image
 after_call image Sync = all_synced image.seen
 
 -- the image after these calls, the first of them first
@@ -59,12 +61,12 @@ IsTornFrom synced (range ∷ earlier) left = (was : List ℕ) × IsTornFrom sync
 abbrev pub MayLeave : Image → List ℕ → Type 0
 MayLeave image left = IsTornFrom image.synced image.unsynced left
 
--- what a crash at some moment from `since` on might have left of a disk that held `start` before these calls
-pub record WasLeft (start : List ℕ) (calls : List DiskCall) (since : ℕ) (left : List ℕ) : Type 0 where
+-- what a crash at some moment from `since` on might have left of a disk that was so before these calls
+pub record WasLeft (first : Image) (calls : List DiskCall) (since : ℕ) (left : List ℕ) : Type 0 where
   pub at : ℕ
   pub from : since ≤ at
   pub to : at ≤ length calls
-  pub may : MayLeave (after_calls (all_synced start) (take at calls)) left
+  pub may : MayLeave (after_calls first (take at calls)) left
 
 -- ---- one crash state of each image
 

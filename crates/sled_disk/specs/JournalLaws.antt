@@ -9,23 +9,23 @@ use Rattle.sled_disk.specs.Journal.{DiskCall, Write, Image, calls_in, is_within,
 use Rattle.sled_disk.specs.DiskLaws.{length-overlaid, torn-overlaid}
 
 -- the crash states of this moment are among those since it
-pub left_by_now : (start : List ℕ) (calls : List DiskCall) (left : List ℕ) → MayLeave (after_calls (all_synced start) calls) left → WasLeft start calls (length calls) left
-left_by_now start calls left may = record {
+pub left_by_now : (first : Image) (calls : List DiskCall) (left : List ℕ) → MayLeave (after_calls first calls) left → WasLeft first calls (length calls) left
+left_by_now first calls left may = record {
   at = length calls;
   from = omega arith;
   to = omega arith;
-  may = subst (λ (l : List DiskCall). MayLeave (after_calls (all_synced start) l) left) (sym (take_all (length calls) calls (omega arith))) may;
+  may = subst (λ (l : List DiskCall). MayLeave (after_calls first l) left) (sym (take_all (length calls) calls (omega arith))) may;
 }
 
 -- and they are all of them
-pub only_by_now : (start : List ℕ) (calls : List DiskCall) (left : List ℕ) → WasLeft start calls (length calls) left → MayLeave (after_calls (all_synced start) calls) left
-only_by_now start calls left was =
+pub only_by_now : (first : Image) (calls : List DiskCall) (left : List ℕ) → WasLeft first calls (length calls) left → MayLeave (after_calls first calls) left
+only_by_now first calls left was =
     let from = was.from in
-    subst (λ (l : List DiskCall). MayLeave (after_calls (all_synced start) l) left) (take_all was.at calls (omega (arith, from))) was.may
+    subst (λ (l : List DiskCall). MayLeave (after_calls first l) left) (take_all was.at calls (omega (arith, from))) was.may
 
 -- what was left since a moment was left since an earlier one
-pub left_earlier : (start : List ℕ) (calls : List DiskCall) (t u : ℕ) (left : List ℕ) → t ≤ u → WasLeft start calls u left → WasLeft start calls t left
-left_earlier start calls t u left le was = let from = was.from in record { at = was.at; from = omega (arith, le, from); to = was.to; may = was.may }
+pub left_earlier : (first : Image) (calls : List DiskCall) (t u : ℕ) (left : List ℕ) → t ≤ u → WasLeft first calls u left → WasLeft first calls t left
+left_earlier first calls t u left le was = let from = was.from in record { at = was.at; from = omega (arith, le, from); to = was.to; may = was.may }
 
 -- ---- how calls are stored
 

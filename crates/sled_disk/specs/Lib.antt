@@ -17,10 +17,15 @@ pub mod Left
 pub mod GoesOn
 pub mod Journal
 pub mod DiskMemory
-pub mod Staged
+pub mod CallersFile
+pub mod Tasks
 pub mod HandedIn
+pub mod Staged
 pub mod Served
 pub mod JournalLaws
+pub mod OverlayLaws
+pub mod HandedInLaws
+pub mod CallersFileLaws
 pub mod RecordLaws
 pub mod EncodingLaws
 pub mod FrameLaws

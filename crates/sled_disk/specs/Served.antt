@@ -1,14 +1,13 @@
--- A log whose caller reads and writes, and what it may change of it.
-use Rattle.std.specs.Prelude.{◌≡◌}
-use Rattle.sled_disk.specs.contracts.disk.staged.StagedDiskDisk.TheImpl as staged
-use Rattle.sled_disk.specs.declared.disk.staged.StagedDisk.{StagedDisk}
+-- A log whose disk alone changes.
+use Rattle.std.specs.Prelude.{◌≡◌, ◌≤◌, ℕ, List}
+use Rattle.sled_log.specs.Events.{is_open}
+use Rattle.sled_log.specs.Messages.{Messages}
+use Rattle.sled_log.specs.declared.log.Log as log
+use Rattle.sled_disk.specs.declared.disk.Disk.{Ghosts}
 use Rattle.sled_disk.specs.declared.log.DiskLog.{DiskLog}
 
-abbrev pub StagedLog : Type 0
-StagedLog = DiskLog StagedDisk staged.ghosts
-
 -- The log is the same but for its disk, of which this holds.
-pub record OnlyDisk (holds : StagedDisk → StagedDisk → Type 0) (old new : StagedLog) : Type 0 where
+pub record OnlyDisk {D : Type 0} {g : Ghosts D} (holds : D → D → Type 0) (old new : DiskLog D g) : Type 0 where
   pub disk : holds old.disk new.disk
   pub segment_size : new.segment_size ≡ old.segment_size
   pub clean_every : new.clean_every ≡ old.clean_every
@@ -17,3 +16,13 @@ pub record OnlyDisk (holds : StagedDisk → StagedDisk → Type 0) (old new : St
   pub next : new.next ≡ old.next
   pub usable : new.usable ≡ old.usable
   pub reads : new.reads ≡ old.reads
+
+-- The log stays in its state, whatever its device. Where that tells its bytes no crash state was added, and none is forgotten.
+pub record StaysALog {L : Type 0} (g : log.Ghosts L) (old new : L) : Type 0 where
+  pub usable : (g.state new).usable ≡ (g.state old).usable
+  pub opened : is_open (g.state new).pending ≡ is_open (g.state old).pending
+  pub counts : g.counts new ≡ g.counts old
+  pub state : g.tells → g.state new ≡ g.state old
+  pub later : g.tells → g.moment old ≤ g.moment new
+  pub nothing_else : g.tells → (t : ℕ) (pages : List Messages) → t ≤ g.moment old → g.left_since new t pages → g.left_since old t pages
+  pub kept : g.tells → (t : ℕ) (pages : List Messages) → t ≤ g.moment old → g.left_since old t pages → g.left_since new t pages

@@ -1,88 +1,160 @@
--- What waits in a disk whose caller reads and writes.
-use Rattle.std.specs.Prelude.{◌≡◌, ◌⊎◌, ◌≤◌, ◌<◌, ◌+◌, ℕ, Bool, true, false, List, [], ◌∷◌, ◌++◌, Option, None, Some, length, take, drop, vec_len, vec_capacity}
-use Rattle.std.specs.VecDeque.{deque_len, deque_capacity}
+-- A disk whose caller reads and writes.
+use Rattle.std.specs.Prelude.{◌≡◌, ◌⊎◌, ℕ, Bool, true, false, List, [], ◌∷◌, ◌++◌, Option, None, Some, length}
 use Rattle.sled_log.specs.Calls.{Counts}
-use Rattle.sled_disk.specs.Journal.{DiskCall, Write, Sync}
+use Rattle.sled_disk.specs.CallersFile.{bytewise, held_after}
+use Rattle.sled_disk.specs.Disk.{LeavesNoMore, overlaid}
+use Rattle.sled_disk.specs.HandedIn.{AreWithin, ArePieces, StandOver, StandsAt, after_task, seen_in}
+use Rattle.sled_disk.specs.Journal.{DiskCall, Again, Image, MayLeave, WasLeft, after_calls}
+use Rattle.sled_disk.specs.OnDisk.{Rests}
+use Rattle.sled_disk.specs.Tasks.{IsHandedOut, tasks_in}
+use Rattle.sled_disk.specs.declared.disk.Disk as disk
+use Rattle.sled_disk.specs.declared.disk.callers_file.CallersFile.{Ghosts}
+use Rattle.sled_disk.specs.declared.disk.staged.stage.Stage.{Stage}
 use Rattle.sled_disk.specs.declared.disk.staged.tasks.Task.{Task}
-use Rattle.sled_disk.specs.declared.disk.staged.tasks.Task.TheVariants as task
-use Rattle.sled_disk.specs.declared.disk.staged.tasks.WaitingWrite.{WaitingWrite}
-use Rattle.sled_disk.specs.declared.disk.staged.tasks.Tasks.{Tasks}
 use Rattle.sled_disk.specs.declared.disk.staged.StagedDisk.{StagedDisk}
 
--- a sync, where one waits
-abbrev pub sync_if : Bool → List DiskCall
-sync_if true = Sync ∷ []
-sync_if false = []
+-- Nothing was handed out: nothing waits, or a task has failed, and all is as it was; or this one fails, where one may.
+abbrev pub HandsNone : Type 0 → Stage → Stage → Type 0
+HandsNone may_fail old new = (((tasks_in old.tasks ≡ []) ⊎ (old.failed ≡ true)) × (new ≡ old)) ⊎ (may_fail × (old.failed ≡ false) × (new ≡ record old { failed = true }))
 
--- writes whose bytes stand from end to end
-abbrev pub writes_in : List WaitingWrite → List ℕ → List DiskCall
-writes_in [] bytes = []
-writes_in (first ∷ later) bytes = sync_if first.sync_before ++ Write first.at (take first.len bytes) ∷ writes_in later (drop first.len bytes)
+module _ {F : Type 0} {g : Ghosts F} where
+  -- how often a disk was read, and how often its caller could not read or write
+  abbrev pub counts_of : StagedDisk F g → Counts
+  counts_of disk = record { reads = disk.reads; failed_reads = disk.failed_reads; write_faults = disk.write_faults }
 
-abbrev pub tasks_in : Tasks → List DiskCall
-tasks_in tasks = writes_in tasks.writes.items (drop tasks.handed_out tasks.bytes.items) ++ sync_if tasks.sync_last
+  -- what the caller of a disk has still to do, in order
+  abbrev pub waiting : StagedDisk F g → List DiskCall
+  waiting disk = tasks_in disk.stage.tasks
 
--- whether so many bytes more, in so many writes, take no memory
-pub record HasRoom (tasks : Tasks) (len count : ℕ) : Type 0 where
-  pub bytes : vec_len tasks.bytes + len ≤ vec_capacity tasks.bytes
-  pub writes : deque_len tasks.writes + count ≤ deque_capacity tasks.writes
+  -- whether nothing was written since the last sync
+  abbrev pub synced : StagedDisk F g → Bool
+  synced disk = disk.stage.tasks.is_synced
 
--- Of a write a part was handed out, as much as the buffer has room for, and the rest still waits.
-pub record IsPart (at len : ℕ) (buffer : List ℕ) (old new : List DiskCall) : Type 0 where
-  pub rest : List ℕ
-  pub later : List DiskCall
-  pub whole : old ≡ Write at (take len buffer ++ rest) ∷ later
-  pub left : new ≡ Write (at + len) rest ∷ later
-  pub some : 0 < length rest
-  pub full : len ≡ length buffer
+  -- whether a write or a sync of its caller failed
+  abbrev pub failed : StagedDisk F g → Bool
+  failed disk = disk.stage.failed
 
--- The first task was handed out, its bytes at the front of a buffer, or a part of it.
-abbrev pub IsHandedOut : Task → List ℕ → List DiskCall → List DiskCall → Type 0
-IsHandedOut (task.Write at len) buffer old new = (len ≤ length buffer) × ((old ≡ Write at (take len buffer) ∷ new) ⊎ IsPart at len buffer old new)
-IsHandedOut task.Sync buffer old new = old ≡ Sync ∷ new
+  -- The same tasks wait, and no other: none was added, done or lost, the file was told of none, and no sync is due that wasn't.
+  pub record StillWaits (old new : StagedDisk F g) : Type 0 where
+    pub file : new.file ≡ old.file
+    pub waiting : waiting new ≡ waiting old
+    pub synced : synced new ≡ synced old
+    pub failed : failed new ≡ failed old
 
--- how often a disk was read, and how often its caller could not read or write
-abbrev pub counts_of : StagedDisk → Counts
-counts_of disk = record { reads = disk.reads; failed_reads = disk.failed_reads; write_faults = disk.write_faults }
+  -- One byte is written again at a place.
+  abbrev pub WritesByte : ℕ → StagedDisk F g → StagedDisk F g → Type 0
+  WritesByte at old new = (byte : List ℕ) × (length byte ≡ 1) × (waiting new ≡ waiting old ++ Again at byte ∷ [])
 
--- what the caller of a disk has still to do, in order
-abbrev pub waiting : StagedDisk → List DiskCall
-waiting disk = tasks_in disk.stage.tasks
+  -- The disk is the same but for the bytes that were handed in, and what is needed.
+  pub record IsFed (old new : StagedDisk F g) : Type 0 where
+    pub tasks : new.stage.tasks ≡ old.stage.tasks
+    pub failed : failed new ≡ failed old
+    pub file : new.file ≡ old.file
+    pub len : new.len ≡ old.len
+    pub counts : counts_of new ≡ counts_of old
 
--- whether nothing was written since the last sync
-abbrev pub synced : StagedDisk → Bool
-synced disk = disk.stage.tasks.is_synced
+  -- The disk is the same but for the tasks that wait, and the file, which was told.
+  pub record IsWorkedOff (old new : StagedDisk F g) : Type 0 where
+    pub synced : synced new ≡ synced old
+    pub pieces : new.stage.pieces ≡ old.stage.pieces
+    pub needs : new.stage.needs ≡ old.stage.needs
+    pub failed : failed new ≡ failed old
+    pub len : new.len ≡ old.len
+    pub counts : counts_of new ≡ counts_of old
 
--- whether a write or a sync of its caller failed
-abbrev pub failed : StagedDisk → Bool
-failed disk = disk.stage.failed
+  -- A task of the caller failed: none is handed out any more, and none waits later. The disk is the same but for that.
+  pub record Fails (old new : StagedDisk F g) : Type 0 where
+    pub stage : new.stage ≡ record old.stage { failed = true }
+    pub file : new.file ≡ old.file
+    pub len : new.len ≡ old.len
+    pub counts : counts_of new ≡ counts_of old
 
--- The same tasks wait, and no other: none was added, done or lost, and no sync is due that wasn't.
-pub record StillWaits (old new : StagedDisk) : Type 0 where
-  pub waiting : waiting new ≡ waiting old
-  pub synced : synced new ≡ synced old
-  pub failed : failed new ≡ failed old
+  -- The first task that waited was handed out, or a part of it; or nothing was.
+  abbrev pub HandsOut : Option Task → List ℕ → StagedDisk F g → StagedDisk F g → Type 0
+  HandsOut (Some task) buffer old new = (failed old ≡ false) × IsHandedOut task buffer (waiting old) (waiting new) × IsWorkedOff old new
+  HandsOut None buffer old new = HandsNone g.may_fail old.stage new.stage × (new.len ≡ old.len) × (counts_of new ≡ counts_of old)
 
--- One byte is written at a place.
-abbrev pub WritesByte : ℕ → StagedDisk → StagedDisk → Type 0
-WritesByte at old new = (byte : List ℕ) × (length byte ≡ 1) × (waiting new ≡ waiting old ++ Write at byte ∷ [])
+  -- Bytes of a file were handed in at a place: where all pieces stood in it, they do so with these. The disk is the same but for that.
+  pub record TakesIn (at : ℕ) (bytes : List ℕ) (old new : StagedDisk F g) : Type 0 where
+    pub fed : IsFed old new
+    pub pieces : (file : List ℕ) → AreWithin file (waiting old) → StandsAt at bytes file
+        → ArePieces old.stage.pieces (seen_in file old.stage.tasks) → ArePieces new.stage.pieces (seen_in file old.stage.tasks)
 
--- The disk is the same but for the bytes that were handed in, and what is needed.
-abbrev pub IsFed : StagedDisk → StagedDisk → Type 0
-IsFed old new = new ≡ record old { stage = record old.stage { pieces = new.stage.pieces; needs = new.stage.needs } }
+  -- All pieces were let go, and what was needed. The disk is the same but for that.
+  pub record Forgets (old new : StagedDisk F g) : Type 0 where
+    pub fed : IsFed old new
+    pub pieces : new.stage.pieces.pieces.items ≡ []
+    pub needs : new.stage.needs ≡ None
 
--- The disk is the same but for the tasks that wait.
-pub record IsWorkedOff (old new : StagedDisk) : Type 0 where
-  pub same : new ≡ record old { stage = record old.stage { tasks = new.stage.tasks } }
-  pub synced : synced new ≡ synced old
+  -- what a read is to give of a file with the tasks of a disk still before it
+  abbrev pub seen_over : List ℕ → StagedDisk F g → List ℕ
+  seen_over file disk = seen_in file disk.stage.tasks
 
--- The first task that waited was handed out, or a part of it, or none waited.
-abbrev pub HandsOut : Option Task → List ℕ → StagedDisk → StagedDisk → Type 0
-HandsOut (Some task) buffer old new = IsHandedOut task buffer (waiting old) (waiting new) × IsWorkedOff old new
-HandsOut None buffer old new = (waiting old ≡ []) × (waiting new ≡ []) × IsWorkedOff old new
+  -- The disk stands over this file.
+  abbrev pub IsOver : List ℕ → StagedDisk F g → Type 0
+  IsOver file disk = StandOver file disk.stage disk.len
 
--- A task of the caller failed: nothing waits, and nothing will. The disk is the same but for that.
-pub record Fails (old new : StagedDisk) : Type 0 where
-  pub none : waiting new ≡ []
-  pub failed : failed new ≡ true
-  pub same : new ≡ record old { stage = record old.stage { tasks = new.stage.tasks; failed = new.stage.failed } }
+  -- It does so behind a call, and a read is to give the same.
+  pub record StaysOver (file : List ℕ) (old new : StagedDisk F g) : Type 0 where
+    pub over : IsOver file new
+    pub seen : seen_over file new ≡ seen_over file old
+
+  -- A read gives these bytes of it at a place.
+  abbrev pub ReadsOver : List ℕ → StagedDisk F g → ℕ → List ℕ → Type 0
+  ReadsOver file disk at bytes = StandsAt at bytes (seen_over file disk)
+
+  -- It has these bytes at a place then.
+  pub record WritesOver (file : List ℕ) (at : ℕ) (bytes : List ℕ) (old new : StagedDisk F g) : Type 0 where
+    pub over : IsOver file new
+    pub written : seen_over file new ≡ overlaid (seen_over file old) at bytes
+
+  -- A task was done to the file, so it stands over what that left.
+  pub record HandsOver (file : List ℕ) (task : Task) (buffer : List ℕ) (old new : StagedDisk F g) : Type 0 where
+    pub over : IsOver (after_task file task buffer) new
+    pub seen : seen_over (after_task file task buffer) new ≡ seen_over file old
+
+  -- ---- the caller's own file
+
+  -- what it holds once all is done that was handed out
+  abbrev pub holds : StagedDisk F g → List ℕ
+  holds disk = held_after (g.first disk.file) (g.done disk.file)
+
+  -- what it has done, and what waits then, byte by byte
+  abbrev pub calls_of : StagedDisk F g → List DiskCall
+  calls_of disk = g.done disk.file ++ bytewise (waiting disk)
+
+  -- what it will be then
+  abbrev pub image_of : StagedDisk F g → Image
+  image_of disk = after_calls (g.first disk.file) (calls_of disk)
+
+  -- what a read gives then
+  abbrev pub seen_of : StagedDisk F g → List ℕ
+  seen_of disk = seen_over (holds disk) disk
+
+  -- the crash states of this moment, and of each from that one on
+  abbrev pub may_leave_of : StagedDisk F g → List ℕ → Type 0
+  may_leave_of disk left = MayLeave (image_of disk) left
+
+  abbrev pub might_have_left : StagedDisk F g → ℕ → List ℕ → Type 0
+  might_have_left disk since left = WasLeft (g.first disk.file) (calls_of disk) since left
+
+  abbrev pub clock_of : StagedDisk F g → ℕ
+  clock_of disk = length (calls_of disk)
+
+  -- A disk has done all that was handed out: a read of it gives what the caller's file holds, and a crash leaves of it what one may leave of that.
+  pub record IsDoneOn {D : Type 0} (d : disk.Ghosts D) (staged : StagedDisk F g) (other : D) : Type 0 where
+    pub seen : d.seen other ≡ holds staged
+    pub may : LeavesNoMore (MayLeave (after_calls (g.first staged.file) (g.done staged.file))) (d.may_leave other)
+
+  -- A read is to give the same, and what a crash may leave and might have left is the same.
+  abbrev pub StaysTheSame : StagedDisk F g → StagedDisk F g → Type 0
+  StaysTheSame old new = Rests g.tells seen_of may_leave_of clock_of might_have_left old new
+
+  -- The disk has so many bytes, and nothing was done since it was made.
+  pub record IsBegun (size : ℕ) (disk : StagedDisk F g) : Type 0 where
+    pub len : disk.len ≡ size
+    pub none : waiting disk ≡ []
+    pub unsynced : synced disk ≡ false
+    pub works : failed disk ≡ false
+    pub counts : counts_of disk ≡ record { reads = 0; failed_reads = 0; write_faults = 0 }
+    pub over : (bytes : List ℕ) → length bytes ≡ size → IsOver bytes disk

@@ -5,6 +5,7 @@ ghost use Rattle.sled_log.specs.Calls.{Counts, HasCause, one_more};
 ghost use Rattle.sled_disk.specs.Disk.{Only, Follows, LeavesNoMore, Torn, overlaid, Elapses};
 ghost use Rattle.sled_log.specs.declared.log.LogError.TheVariants.{Memory, ReadFault, WriteFault};
 
+mod callers_file;
 mod file;
 mod journal;
 mod limit;
@@ -13,11 +14,12 @@ mod opening;
 mod staged;
 mod system;
 
+pub use callers_file::{CallersFile, UnseenFile};
 pub use file::FileDisk;
 pub(crate) use journal::count;
 pub use memory::MemDisk;
 use sled_log::LogError;
-pub use staged::{StagedDisk, Task};
+pub use staged::{StagedDisk, Task, do_task};
 pub use system::SystemFile;
 
 /// A disk: bytes in order, which are read and written at a place.

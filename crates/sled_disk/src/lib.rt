@@ -18,7 +18,9 @@ mod recovery;
 mod targets;
 mod window;
 
-pub use disk::{Disk, FileDisk, MemDisk, StagedDisk, SystemFile, Task};
+pub use disk::{
+    CallersFile, Disk, FileDisk, MemDisk, StagedDisk, SystemFile, Task, UnseenFile, do_task,
+};
 pub use law_of_crashes::{
     a_disk_log_at_rest, a_log_at_rest, a_log_on_a_disk_in_memory_tells,
     a_log_on_a_file_in_memory_tells, a_log_on_a_file_tells, reopen_after_a_crash,

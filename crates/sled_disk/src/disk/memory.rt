@@ -7,13 +7,12 @@ ghost use Rattle.sled_disk.specs.Journal.{Write, Sync, are_within, calls_in, cal
 ghost use Rattle.sled_disk.specs.JournalLaws.{left_by_now, only_by_now, left_earlier, seen_left};
 ghost use Rattle.sled_log.specs.declared.log.LogError.TheVariants.{Memory, ReadFault, WriteFault};
 
+mod files;
+
 use super::Disk;
 use super::journal::{Call, add, copy, count, overlay, replay};
-use super::system::SystemFile;
 use sled_log::LogError;
 use std::alloc::{AllocError, Global};
-use std::io;
-use std::io::ErrorKind;
 
 /// A disk in memory, for tests of crashes. It keeps what it held at first and a journal of its writes and syncs, so the crash states
 /// of each moment are known from what is stored, and `stop` gives the disk as a crash left it.
@@ -213,7 +212,7 @@ impl Disk for MemDisk {
 
     ghost moment = { λ disk. length (calls_of disk) };
 
-    ghost left_since = { λ disk t left. WasLeft disk.start.items (calls_of disk) t left };
+    ghost left_since = { λ disk t left. WasLeft (all_synced disk.start.items) (calls_of disk) t left };
 
     ghost counts = { λ disk. record { reads = disk.reads; failed_reads = disk.failed_reads; write_faults = disk.write_faults } };
 
@@ -221,11 +220,11 @@ impl Disk for MemDisk {
 
     ghost seen_now = { λ disk told. seen_left disk.start.items disk.written.items disk.bytes.items (length disk.bytes.items) disk.calls.items disk.within disk.replayed };
 
-    ghost left_now = { λ disk left told may. left_by_now disk.start.items (calls_of disk) left may };
+    ghost left_now = { λ disk left told may. left_by_now (all_synced disk.start.items) (calls_of disk) left may };
 
-    ghost only_now = { λ disk left told was. only_by_now disk.start.items (calls_of disk) left was };
+    ghost only_now = { λ disk left told was. only_by_now (all_synced disk.start.items) (calls_of disk) left was };
 
-    ghost since_earlier = { λ disk t u left told le was. left_earlier disk.start.items (calls_of disk) t u left le was };
+    ghost since_earlier = { λ disk t u left told le was. left_earlier (all_synced disk.start.items) (calls_of disk) t u left le was };
 
     fn len(&mut self) -> Result<u64, LogError>
         ensures ok { is_ok result ≡ can_measure self.old }
@@ -297,6 +296,10 @@ impl Disk for MemDisk {
             (room_of self.new ≡ (self.old.bytes_left - length bytes.now, self.old.calls_left - 1)) }
         ensures kept { OnErr result ((image_now self.new ≡ image_now self.old)
             × (room_of self.new ≡ room_of self.old)) }
+        ensures noted { OnOk result
+            (calls_of self.new ≡ calls_of self.old ++ Write at bytes.now ∷ []) }
+        ensures unnoted { OnErr result (calls_of self.new ≡ calls_of self.old) }
+        ensures start { self.new.start.items ≡ self.old.start.items }
         ensures faults { faults_of self.new ≡ (self.old.read_to_fail, self.old.write_to_fail - 1) }
         ensures only { IfErr result (λ e. e ≡ WriteFault) }
         ensures cause { HasCause (counts_of self.old) (counts_of self.new) result }
@@ -327,6 +330,9 @@ impl Disk for MemDisk {
             (room_of self.new ≡ (self.old.bytes_left, self.old.calls_left - 1)) }
         ensures kept { OnErr result ((image_now self.new ≡ image_now self.old)
             × (room_of self.new ≡ room_of self.old)) }
+        ensures noted { OnOk result (calls_of self.new ≡ calls_of self.old ++ Sync ∷ []) }
+        ensures unnoted { OnErr result (calls_of self.new ≡ calls_of self.old) }
+        ensures start { self.new.start.items ≡ self.old.start.items }
         ensures faults { faults_of self.new ≡ (self.old.read_to_fail, self.old.write_to_fail - 1) }
         ensures only { IfErr result (λ e. e ≡ WriteFault) }
         ensures cause { HasCause (counts_of self.old) (counts_of self.new) result }
@@ -350,64 +356,5 @@ impl Disk for MemDisk {
 
     fn write_faults(&self) -> u64 {
         self.write_faults
-    }
-}
-
-/// A file that keeps its word, for tests of what stands on a file: no read of it fails, and a write or a sync does where the disk's does.
-impl SystemFile for MemDisk {
-    ghost use Rattle.sled_disk.specs.DiskMemory.{bytes_of, calls_of, clock_of, may_leave_of, might_have_left};
-
-    ghost tells = { ⊤ };
-
-    ghost has_failed = { λ _. false };
-
-    ghost seen = { λ disk. disk.bytes.items };
-
-    ghost may_leave = { λ disk left. MayLeave (after_calls (all_synced disk.start.items) (calls_of disk)) left };
-
-    ghost moment = { λ disk. length (calls_of disk) };
-
-    ghost left_since = { λ disk t left. WasLeft disk.start.items (calls_of disk) t left };
-
-    ghost are_bytes = { λ disk i told. disk.are_bytes i };
-
-    ghost seen_now = { λ disk told. seen_left disk.start.items disk.written.items disk.bytes.items (length disk.bytes.items) disk.calls.items disk.within disk.replayed };
-
-    ghost left_now = { λ disk left told may. left_by_now disk.start.items (calls_of disk) left may };
-
-    ghost only_now = { λ disk left told was. only_by_now disk.start.items (calls_of disk) left was };
-
-    ghost since_earlier = { λ disk t u left told le was. left_earlier disk.start.items (calls_of disk) t u left le was };
-
-    fn size(&self) -> io::Result<u64> {
-        Ok(self.bytes.len() as u64)
-    }
-
-    fn read_whole_at(&self, at: u64, into: &mut [u8]) -> io::Result<()> {
-        let len = self.bytes.len() as u64;
-        if len < at || len - at < into.len() as u64 {
-            return Err(io::Error::from(ErrorKind::UnexpectedEof));
-        }
-        let at = at as usize;
-        into.copy_from_slice(&self.bytes[at..at + into.len()]);
-        Ok(())
-    }
-
-    fn write_some_at(&mut self, at: u64, bytes: &[u8]) -> io::Result<usize> {
-        match self.write_at(at, bytes) {
-            Ok(()) => Ok(bytes.len()),
-            Err(_) => Err(io::Error::from(ErrorKind::Other)),
-        }
-    }
-
-    fn write_again_at(&mut self, _at: u64, _byte: u8) -> io::Result<()> {
-        Ok(())
-    }
-
-    fn sync_data(&mut self) -> io::Result<()> {
-        match self.sync() {
-            Ok(()) => Ok(()),
-            Err(_) => Err(io::Error::from(ErrorKind::Other)),
-        }
     }
 }

@@ -1,6 +1,7 @@
 //! Opening a file of the system.
 
 ghost use Rattle.std.specs.Prelude.{◌≡◌, ◌⊎◌, false, true, IfOk, IfErr};
+ghost use Rattle.std.specs.Fs.{asks_append, asks_create, asks_read, asks_truncate, asks_write};
 ghost use Rattle.sled_log.specs.declared.log.LogError.TheVariants.{Memory, ReadFault};
 
 use super::Disk;
@@ -70,8 +71,14 @@ fn lock<R: Files<File = File>>(files: &R, path: &str) -> io::Result<File> {
     Ok(file)
 }
 
-// To read and write, and to make it where it is absent; nothing is cut.
-fn options() -> OpenOptions {
+// To read and write, and to make it where it is absent; nothing is cut, and nothing is written behind what others write.
+fn options() -> OpenOptions
+    ensures reads { asks_read result ≡ true }
+    ensures writes { asks_write result ≡ true }
+    ensures makes { asks_create result ≡ true }
+    ensures cuts_nothing { asks_truncate result ≡ false }
+    ensures adds_nothing { asks_append result ≡ false }
+{
     let mut options = OpenOptions::new();
     options.read(true).write(true).create(true);
     options

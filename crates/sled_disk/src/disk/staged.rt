@@ -1,16 +1,26 @@
 //! A disk whose caller does the reading and writing.
 
-ghost use Rattle.std.specs.Prelude.{◌≡◌, ◌≤◌, ◌<◌, ◌+◌, ◌^◌, ◌⊎◌, ◌++◌, ℕ, List, [], ◌∷◌, Some, false, true, length, max, IfOk, IfErr, IfSome, OnOk, OnErr, IsOk};
+ghost use Rattle.std.specs.Prelude.{◌≡◌, ◌≤◌, ◌<◌, ◌+◌, ◌^◌, ◌⊎◌, ◌++◌, ℕ, List, [], ◌∷◌, Some, false, true, length, take, drop, max, IfOk, IfErr, IfSome, IfNone, OnOk, OnErr, IsOk};
 ghost use Rattle.sled_log.specs.Calls.{Counts, HasCause, one_more};
+ghost use Rattle.sled_disk.specs.CallersFile.{IsSettled, bytewise, held_after};
+ghost use Rattle.sled_disk.specs.CallersFileLaws.{bytes-tasks, leaves-tasks};
+ghost use Rattle.sled_disk.specs.HandedIn.{StandOver, seen_in};
+ghost use Rattle.sled_disk.specs.HandedInLaws.{stand_over-prop};
+ghost use Rattle.sled_disk.specs.Journal.{after_calls, MayLeave, WasLeft};
+ghost use Rattle.sled_disk.specs.JournalLaws.{left_by_now, only_by_now, left_earlier};
+ghost use Rattle.sled_disk.specs.Tasks.{tasks_in};
 ghost use Rattle.sled_log.specs.declared.log.LogError.TheVariants.{Memory, ReadFault, WriteFault};
 
 use super::Disk;
+use super::callers_file::{CallersFile, UnseenFile};
 use super::journal::count;
+pub use doing::do_task;
 use sled_log::LogError;
 use stage::Stage;
 use std::alloc::{AllocError, Global};
 pub use tasks::Task;
 
+mod doing;
 mod pieces;
 mod stage;
 mod tasks;
@@ -22,37 +32,49 @@ mod tasks;
 /// says what it wanted: then the caller works off what waits, reads those bytes, hands them in by `hand_in` and makes the call again.
 /// Once it has an answer it lets them go by `forget`. Where a task fails it says so by `fail`.
 ///
-/// Which bytes a read gives is so the caller's word. Over a file whose bytes are handed in as they are, a read gives what the file will
-/// hold once all that waits is done, and each write and sync that answers Ok waits. A log is told nothing of that: as of a file, all that
-/// it knows is why a call fails, and the counts. The length is what the disk was told when it was made, and what is written past it.
+/// It tells its bytes where the caller's file does, which is told each task as it is handed out (`CallersFile`): a read gives what the file
+/// will hold once all that waits is done, and a crash leaves then what it may leave of the file. Of a file that is out of sight
+/// (`UnseenFile`) that is the caller's word, and a log is told nothing of it: as of a file of the system, all that it knows is why a call
+/// fails, and the counts. The length is what the disk was told when it was made, and what is written past it.
 ///
 /// `make_room` takes the memory for the next two writes, which is kept for later ones. A write for which no room was made takes its own,
 /// and is a WriteFault where there is none; nothing of it waits then, and the disk goes on. A sync takes no memory.
 #[derive(Drop)]
-pub struct StagedDisk {
+pub struct StagedDisk<F: CallersFile = UnseenFile> {
+    file: F,
     stage: Stage,
     len: u64,
     reads: u64,
     failed_reads: u64,
     write_faults: u64,
+    ghost over: { F.tells → StandOver (held_after (F.first file) (F.done file)) stage len } by { stand_over-prop F.tells (held_after (F.first file) (F.done file)) stage len },
+    ghost settled: { F.tells → stage.tasks.is_synced ≡ true → IsSettled (after_calls (F.first file) (F.done file ++ bytewise (tasks_in stage.tasks))) },
 }
 
-impl StagedDisk {
-    ghost use Rattle.sled_disk.specs.HandedIn.{Forgets, HandsOver, IsOver, StandsAt, StaysOver, TakesIn};
-    ghost use Rattle.sled_disk.specs.Staged.{waiting, synced, failed, StillWaits, HandsOut, Fails};
+impl StagedDisk<UnseenFile> {
+    ghost use Rattle.sled_disk.specs.Staged.{IsBegun};
 
-    /// The disk of a file that has so many bytes. It takes no memory. What the file holds is not known to be durable, so the first sync
-    /// is a task too.
-    pub fn new(alloc: Global, len: u64) -> StagedDisk
-        ensures counts { ⟦<Self as Disk>⟧.counts result
-            ≡ record { reads = 0; failed_reads = 0; write_faults = 0 } }
-        ensures len { result.len ≡ len }
-        ensures none { waiting result ≡ [] }
-        ensures unsynced { synced result ≡ false }
-        ensures works { failed result ≡ false }
-        ensures over { (file : List ℕ) → length file ≡ len → IsOver file result }
+    /// The disk of a file that has so many bytes, and is out of sight: `over` such a file.
+    pub fn new(alloc: Global, len: u64) -> StagedDisk<UnseenFile>
+        ensures { IsBegun len result }
+    {
+        StagedDisk::over(alloc, UnseenFile, len)
+    }
+}
+
+impl<F: CallersFile> StagedDisk<F> {
+    ghost use Rattle.sled_disk.specs.HandedIn.{AddsTask, StandsAt};
+    ghost use Rattle.sled_disk.specs.Staged.{counts_of, failed, holds, Fails, Forgets, HandsOut, HandsOver, IsBegun, IsOver, StaysOver, StaysTheSame, StillWaits, TakesIn};
+
+    /// The disk of a caller's file, which has so many bytes. It takes no memory. What the file holds is not known to be durable, so the first
+    /// sync is a task too.
+    pub fn over(alloc: Global, file: F, len: u64) -> StagedDisk<F>
+        requires { F.tells → len ≡ length (held_after (F.first file) (F.done file)) }
+        ensures begun { IsBegun len result }
+        ensures file { result.file ≡ file }
     {
         StagedDisk {
+            file,
             stage: Stage::new(alloc),
             len,
             reads: 0,
@@ -61,16 +83,38 @@ impl StagedDisk {
         }
     }
 
-    /// The next task of the caller, or `None` once nothing waits. It counts as done: the caller does it before it hands in bytes.
+    /// The caller's file.
+    pub fn file(&self) -> &F
+        ensures { result.now ≡ self.now.file }
+    {
+        &self.file
+    }
+
+    /// Ends the disk. What waits isn't handed out any more.
+    pub fn into_file(self) -> F
+        ensures { result ≡ self.file }
+    {
+        self.file
+    }
+
+    /// The next task of the caller, or `None` once nothing waits, and after `fail`. It counts as done: the caller does it before it hands
+    /// in bytes.
     ///
     /// The bytes of a write are put to the front of the buffer, as far as it has room, and the rest comes as a further write. Into a
-    /// buffer of no bytes a write comes as one of none, and waits as before.
+    /// buffer of no bytes a write comes as one of none, and waits as before. Where the file that is told of the task fails, it is `None`
+    /// too, and as after `fail`.
     pub fn next_task(&mut self, into: &mut [u8]) -> Option<Task>
         ensures next { HandsOut result into.new self.old self.new }
         ensures over { (file : List ℕ) → IsOver file self.old
             → IfSome result (λ task. HandsOver file task into.new self.old self.new) }
+        ensures told { F.tells → IfSome result (λ task. AddsTask (holds self.old) task into.new
+            (F.done self.old.file) (F.done self.new.file)) }
+        ensures untold { F.tells → IfNone result (F.done self.new.file ≡ F.done self.old.file) }
+        ensures first { F.tells → F.first self.new.file ≡ F.first self.old.file }
+        ensures rests { StaysTheSame self.old self.new }
+        ensures counts { counts_of self.new ≡ counts_of self.old }
     {
-        self.stage.next(into)
+        self.stage.next(&mut self.file, into)
     }
 
     /// What the last read wanted whose bytes weren't handed in: their place, and how many. It is `None` again once bytes are handed in
@@ -89,10 +133,12 @@ impl StagedDisk {
     ///
     /// AllocError: there was no memory for the copy, and nothing changed.
     pub fn hand_in(&mut self, at: u64, bytes: &[u8]) -> Result<(), AllocError>
+        requires word { F.tells → StandsAt at bytes.now (holds self.old) }
         ensures taken { TakesIn at bytes.now self.old self.new }
         ensures waits { StillWaits self.old self.new }
         ensures over { (file : List ℕ) → StandsAt at bytes.now file → IsOver file self.old
             → StaysOver file self.old self.new }
+        ensures rests { StaysTheSame self.old self.new }
     {
         let behind = self.len.saturating_sub(at);
         let len = behind.min(bytes.len() as u64) as usize;
@@ -104,14 +150,17 @@ impl StagedDisk {
         ensures forgets { Forgets self.old self.new }
         ensures waits { StillWaits self.old self.new }
         ensures over { (file : List ℕ) → IsOver file self.old → StaysOver file self.old self.new }
+        ensures rests { StaysTheSame self.old self.new }
     {
         self.stage.forget();
     }
 
-    /// A write or a sync of the caller failed. Nothing waits any more, and each later write and sync is a WriteFault. What is durable is
-    /// found by opening the file again over a new disk; reads go on, and the length counts what was written and then lost.
+    /// A write or a sync of the caller failed. Nothing is handed out any more, and each later write and sync is a WriteFault. What is durable
+    /// is found by opening the file again over a new disk. The length counts what was written and then lost, and reads go on, but for the
+    /// bytes of a write that still waited: none that is handed in there is kept.
     pub fn fail(&mut self)
         ensures fails { Fails self.old self.new }
+        ensures rests { StaysTheSame self.old self.new }
     {
         self.stage.fail();
     }
@@ -124,35 +173,39 @@ impl StagedDisk {
     }
 }
 
-impl Disk for StagedDisk {
-    ghost use Rattle.sled_disk.specs.HandedIn.{IsOver, ReadsOver, StaysOver, WritesOver};
+impl<F: CallersFile> Disk for StagedDisk<F> {
+    ghost use Rattle.sled_disk.specs.Disk.{Elapses, Follows, LeavesNoMore, Only, Torn, overlaid};
     ghost use Rattle.sled_disk.specs.Journal.{Write, Sync};
-    ghost use Rattle.sled_disk.specs.Staged.{counts_of, waiting, synced, failed, StillWaits, WritesByte};
+    ghost use Rattle.sled_disk.specs.Staged.{clock_of, counts_of, failed, may_leave_of, might_have_left, seen_of, synced, waiting, IsOver, ReadsOver, StaysOver, StillWaits, WritesByte, WritesOver};
 
-    ghost tells = { ⊥ };
+    ghost tells = { F.tells };
 
-    ghost seen = { λ _. [] };
+    ghost seen = { λ disk. seen_in (held_after (F.first disk.file) (F.done disk.file)) disk.stage.tasks };
 
-    ghost may_leave = { λ _ _. ⊥ };
+    ghost may_leave = { λ disk left. MayLeave (after_calls (F.first disk.file) (F.done disk.file ++ bytewise (tasks_in disk.stage.tasks))) left };
 
-    ghost moment = { λ _. 0 };
+    ghost moment = { λ disk. length (F.done disk.file ++ bytewise (tasks_in disk.stage.tasks)) };
 
-    ghost left_since = { λ _ _ _. ⊥ };
+    ghost left_since = { λ disk t left. WasLeft (F.first disk.file) (F.done disk.file ++ bytewise (tasks_in disk.stage.tasks)) t left };
 
     ghost counts = { λ disk. record { reads = disk.reads; failed_reads = disk.failed_reads; write_faults = disk.write_faults } };
 
-    ghost are_bytes = { λ disk i told. absurd told };
+    ghost are_bytes = { λ disk i told. bytes-tasks (held_after (F.first disk.file) (F.done disk.file)) disk.stage.tasks.writes.items disk.stage.tasks.bytes.items disk.stage.tasks.handed_out disk.stage.tasks.sync_last (λ k. F.are_bytes disk.file k told) disk.stage.tasks.are_bytes i };
 
-    ghost seen_now = { λ disk told. absurd told };
+    ghost seen_now = { λ disk told. leaves-tasks (F.first disk.file) (F.done disk.file) (tasks_in disk.stage.tasks) (disk.over told).within (F.seen_now disk.file told) };
 
-    ghost left_now = { λ disk left told may. absurd told };
+    ghost left_now = { λ disk left told may. left_by_now (F.first disk.file) (F.done disk.file ++ bytewise (tasks_in disk.stage.tasks)) left may };
 
-    ghost only_now = { λ disk left told was. absurd told };
+    ghost only_now = { λ disk left told was. only_by_now (F.first disk.file) (F.done disk.file ++ bytewise (tasks_in disk.stage.tasks)) left was };
 
-    ghost since_earlier = { λ disk t u left told le was. absurd told };
+    ghost since_earlier = { λ disk t u left told le was. left_earlier (F.first disk.file) (F.done disk.file ++ bytewise (tasks_in disk.stage.tasks)) t u left le was };
 
     // It is kept, so it never fails.
     fn len(&mut self) -> Result<u64, LogError>
+        ensures tells_len { F.tells → IfOk result (λ len. len ≡ length (seen_of self.old)) }
+        ensures seen { F.tells → seen_of self.new ≡ seen_of self.old }
+        ensures stop { F.tells → LeavesNoMore (may_leave_of self.old) (may_leave_of self.new) }
+        ensures time { F.tells → Elapses clock_of might_have_left may_leave_of self.old self.new }
         ensures ok { IsOk result }
         ensures len { IfOk result (λ len. len ≡ self.old.len) }
         ensures kept { self.new.len ≡ self.old.len }
@@ -167,7 +220,13 @@ impl Disk for StagedDisk {
     }
 
     fn read_at(&mut self, at: u64, into: &mut [u8]) -> Result<(), LogError>
+        ensures inside { F.tells → OnOk result (at + length into.old ≤ length (seen_of self.old)) }
+        ensures told { F.tells → OnOk result (into.new ≡ take (length into.old) (drop at (seen_of self.old))) }
+        ensures seen { F.tells → seen_of self.new ≡ seen_of self.old }
+        ensures stop { F.tells → LeavesNoMore (may_leave_of self.old) (may_leave_of self.new) }
+        ensures time { F.tells → Elapses clock_of might_have_left may_leave_of self.old self.new }
         ensures within { OnOk result (at + length into.old ≤ self.old.len) }
+        ensures small { OnOk result (at + length into.old < 2 ^ 64) }
         ensures length { length into.new ≡ length into.old }
         ensures kept { self.new.len ≡ self.old.len }
         ensures only { IfErr result (λ e. e ≡ ReadFault) }
@@ -192,6 +251,10 @@ impl Disk for StagedDisk {
     }
 
     fn make_room(&mut self, len: usize) -> Result<(), LogError>
+        ensures seen { F.tells → seen_of self.new ≡ seen_of self.old }
+        ensures stop { F.tells → LeavesNoMore (may_leave_of self.old) (may_leave_of self.new) }
+        ensures time { F.tells → Elapses clock_of might_have_left may_leave_of self.old self.new }
+        ensures moment { F.tells → clock_of self.new ≡ clock_of self.old }
         ensures kept { self.new.len ≡ self.old.len }
         ensures only { IfErr result (λ e. e ≡ Memory) }
         ensures counts { counts_of self.new ≡ counts_of self.old }
@@ -204,6 +267,10 @@ impl Disk for StagedDisk {
 
     // Where no room was made and there is no memory, it fails, and nothing of it waits.
     fn write_at(&mut self, at: u64, bytes: &[u8]) -> Result<(), LogError>
+        ensures inside { F.tells → OnOk result (at ≤ length (seen_of self.old)) }
+        ensures written { F.tells → OnOk result (seen_of self.new ≡ overlaid (seen_of self.old) at bytes.now) }
+        ensures stop { F.tells → Follows (Torn at (length bytes.now)) (may_leave_of self.old) (may_leave_of self.new) }
+        ensures time { F.tells → Elapses clock_of might_have_left may_leave_of self.old self.new }
         ensures within { OnOk result (at ≤ self.old.len) }
         ensures fits { OnOk result (at + length bytes.now < 2 ^ 64) }
         ensures len { OnOk result (self.new.len ≡ max self.old.len (at + length bytes.now)) }
@@ -235,6 +302,9 @@ impl Disk for StagedDisk {
 
     // The byte is one that was handed in, and its write waits.
     fn write_again(&mut self, at: u64) -> Result<(), LogError>
+        ensures seen { F.tells → seen_of self.new ≡ seen_of self.old }
+        ensures stop { F.tells → LeavesNoMore (may_leave_of self.old) (may_leave_of self.new) }
+        ensures time { F.tells → Elapses clock_of might_have_left may_leave_of self.old self.new }
         ensures kept { self.new.len ≡ self.old.len }
         ensures only { IfErr result (λ e. (e ≡ ReadFault) ⊎ (e ≡ WriteFault)) }
         ensures cause { HasCause (counts_of self.old) (counts_of self.new) result }
@@ -248,10 +318,18 @@ impl Disk for StagedDisk {
     {
         let mut byte = [0];
         self.read_at(at, &mut byte)?;
-        self.write_at(at, &byte)
+        if self.stage.write_again(at, &byte) {
+            return Ok(());
+        }
+        count(&mut self.write_faults);
+        Err(LogError::WriteFault)
     }
 
     fn sync(&mut self) -> Result<(), LogError>
+        ensures durable { F.tells → OnOk result (Only (seen_of self.old) (may_leave_of self.new)) }
+        ensures seen { F.tells → OnOk result (seen_of self.new ≡ seen_of self.old) }
+        ensures stop { F.tells → LeavesNoMore (may_leave_of self.old) (may_leave_of self.new) }
+        ensures time { F.tells → Elapses clock_of might_have_left may_leave_of self.old self.new }
         ensures kept { self.new.len ≡ self.old.len }
         ensures only { IfErr result (λ e. e ≡ WriteFault) }
         ensures cause { HasCause (counts_of self.old) (counts_of self.new) result }

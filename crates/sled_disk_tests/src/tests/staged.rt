@@ -9,6 +9,7 @@ mod handing;
 mod logs;
 mod long_files;
 mod overwriting;
+mod told;
 mod writing;
 
 #[derive(Clone, Copy)]

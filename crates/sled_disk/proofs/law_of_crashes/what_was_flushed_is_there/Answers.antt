@@ -5,6 +5,7 @@ use Rattle.sled_log.specs.Messages.{Messages}
 use Rattle.sled_log.specs.Runs.{events_of_all}
 use Rattle.sled_disk.specs.declared.disk.memory.MemDisk.{MemDisk}
 use Rattle.sled_disk.specs.DiskMemory.{calls_of, clock_of, might_have_left}
+use Rattle.sled_disk.specs.Journal.{all_synced}
 use Rattle.sled_disk.specs.JournalLaws.{left_earlier}
 use Rattle.sled_disk.specs.Pending.{state_in}
 use Rattle.sled_disk.specs.Ready.{LeavesPages}
@@ -21,7 +22,7 @@ if_err P Q (Err e) f p = f e p
 
 -- what was left since a moment was left since an earlier one
 earlier : (disk : MemDisk) (t u : ℕ) (pages : List Messages) → t ≤ u → LeavesPages (might_have_left disk u) pages → LeavesPages (might_have_left disk t) pages
-earlier disk t u pages le l = (l.0, left_earlier disk.start.items (calls_of disk) t u l.0 le l.1, l.2)
+earlier disk t u pages le l = (l.0, left_earlier (all_synced disk.start.items) (calls_of disk) t u l.0 le l.1, l.2)
 
 pub returns-clause-prefix : goal.returns-clause-prefix
 returns-clause-prefix c =

@@ -4,6 +4,7 @@ ghost use Rattle.std.specs.Prelude.{◌≡◌, ◌≤◌, ◌<◌, ◌+◌, ◌^
 
 use super::pieces::Pieces;
 use super::tasks::{Task, Tasks};
+use crate::disk::CallersFile;
 use std::alloc::{AllocError, Global};
 
 // What the caller has still to do, and what it handed in.
@@ -19,9 +20,11 @@ pub(super) struct Stage {
 // once all that waits is done too.
 impl Stage {
     ghost use Rattle.sled_disk.specs.Disk.{overlaid};
-    ghost use Rattle.sled_disk.specs.HandedIn.{StandsAt, ArePieces, AreWithin, after_task, seen_in};
-    ghost use Rattle.sled_disk.specs.Journal.{Write, Sync};
-    ghost use Rattle.sled_disk.specs.Staged.{tasks_in, IsHandedOut};
+    ghost use Rattle.sled_disk.specs.CallersFile.{bytewise, held_after};
+    ghost use Rattle.sled_disk.specs.HandedIn.{AddsTask, StandsAt, ArePieces, AreWithin, after_task, seen_in};
+    ghost use Rattle.sled_disk.specs.Journal.{Write, Again, Sync};
+    ghost use Rattle.sled_disk.specs.Staged.{HandsNone};
+    ghost use Rattle.sled_disk.specs.Tasks.{tasks_in, IsHandedOut};
 
     // Nothing waits, and nothing was handed in.
     pub(super) fn new(alloc: Global) -> Stage
@@ -39,21 +42,42 @@ impl Stage {
         }
     }
 
-    // Hands out the next task.
-    pub(super) fn next(&mut self, into: &mut [u8]) -> Option<Task>
+    // Hands out the next task, and tells the caller's file of it. Where that fails nothing is handed out any more.
+    pub(super) fn next<F: CallersFile>(&mut self, file: &mut F, into: &mut [u8]) -> Option<Task>
+        requires within { F.tells → AreWithin (held_after (F.first file.old) (F.done file.old))
+            (tasks_in self.old.tasks) }
         ensures next { IfSome result (λ task. IsHandedOut task into.new (tasks_in self.old.tasks)
             (tasks_in self.new.tasks)) }
+        ensures works { IfSome result (λ task. (self.old.failed ≡ false)
+            × (self.new ≡ record self.old { tasks = self.new.tasks })) }
+        ensures none { IfNone result (HandsNone F.may_fail self.old self.new) }
         ensures within { (file : List ℕ) → AreWithin file (tasks_in self.old.tasks) → IfSome result
             (λ task. AreWithin (after_task file task into.new) (tasks_in self.new.tasks)) }
         ensures seen { (file : List ℕ) → AreWithin file (tasks_in self.old.tasks) → IfSome result
             (λ task. seen_in (after_task file task into.new) self.new.tasks
             ≡ seen_in file self.old.tasks) }
-        ensures none { IfNone result (tasks_in self.old.tasks ≡ []) }
-        ensures same { IfNone result (tasks_in self.new.tasks ≡ []) }
         ensures is_synced { self.new.tasks.is_synced ≡ self.old.tasks.is_synced }
-        ensures kept { self.new ≡ record self.old { tasks = self.new.tasks } }
+        ensures told { F.tells → F.done file.new ++ bytewise (tasks_in self.new.tasks)
+            ≡ F.done file.old ++ bytewise (tasks_in self.old.tasks) }
+        ensures first { F.tells → F.first file.new ≡ F.first file.old }
+        ensures adds { F.tells → IfSome result
+            (λ task. AddsTask (held_after (F.first file.old) (F.done file.old)) task into.new
+            (F.done file.old) (F.done file.new)) }
+        ensures held { F.tells → IfSome result
+            (λ task. held_after (F.first file.new) (F.done file.new)
+            ≡ after_task (held_after (F.first file.old) (F.done file.old)) task into.new) }
+        ensures not_held { F.tells → IfNone result (F.done file.new ≡ F.done file.old) }
     {
-        self.tasks.next(into)
+        if self.failed {
+            return None;
+        }
+        match self.tasks.next(file, into) {
+            Ok(task) => task,
+            Err(()) => {
+                self.failed = true;
+                None
+            }
+        }
     }
 
     // Keeps bytes that were handed in, unless a write that waits may change them.
@@ -109,11 +133,26 @@ impl Stage {
         ensures kept { result ≡ false → self.new ≡ record self.old { tasks = self.new.tasks } }
         ensures failed { self.new.failed ≡ self.old.failed }
     {
-        if self.failed || self.tasks.write(at, bytes).is_err() {
+        if self.failed || self.tasks.write(at, bytes, false).is_err() {
             return false;
         }
         self.pieces.drop_between(at, at + bytes.len() as u64);
         true
+    }
+
+    // Lets a write of a byte wait that is there already.
+    pub(super) fn write_again(&mut self, at: u64, bytes: &[u8]) -> bool
+        requires small { at + length bytes.now < 2 ^ 64 }
+        requires one { length bytes.now ≡ 1 }
+        ensures works { IsTrue result → self.old.failed ≡ false }
+        ensures added { IsTrue result
+            → tasks_in self.new.tasks ≡ tasks_in self.old.tasks ++ Again at bytes.now ∷ [] }
+        ensures unsynced { IsTrue result → self.new.tasks.is_synced ≡ false }
+        ensures refused { result ≡ false → tasks_in self.new.tasks ≡ tasks_in self.old.tasks }
+        ensures still { result ≡ false → self.new.tasks.is_synced ≡ self.old.tasks.is_synced }
+        ensures kept { self.new ≡ record self.old { tasks = self.new.tasks } }
+    {
+        !self.failed && self.tasks.write(at, bytes, true).is_ok()
     }
 
     // Lets go of what was handed in, and of what was needed.
@@ -127,14 +166,10 @@ impl Stage {
         self.needs = None;
     }
 
-    // Lets nothing wait any more, and nothing wait later.
+    // Hands out nothing any more, and lets nothing wait later.
     pub(super) fn fail(&mut self)
-        ensures none { tasks_in self.new.tasks ≡ [] }
-        ensures failed { self.new.failed ≡ true }
-        ensures kept { self.new
-            ≡ record self.old { tasks = self.new.tasks; failed = self.new.failed } }
+        ensures { self.new ≡ record self.old { failed = true } }
     {
-        self.tasks.clear();
         self.failed = true;
     }
 

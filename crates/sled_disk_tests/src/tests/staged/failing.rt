@@ -78,7 +78,7 @@ pub(super) const FAILURES: &[Script] = &[
         ],
     ),
     (
-        "and bytes are handed in and read as before",
+        "and bytes are handed in and read as before, but for those of a write that was lost",
         8,
         &[
             HandsIn(0, b"ab"),
@@ -88,7 +88,9 @@ pub(super) const FAILURES: &[Script] = &[
             ReadFails(4, 2),
             Needs(4, 2),
             HandsIn(4, b"??"),
-            Reads(4, b"??"),
+            ReadFails(4, 2),
+            HandsIn(2, b"cd"),
+            Reads(0, b"abcd"),
             MakesRoom(8, true),
             HasFailed(true),
         ],

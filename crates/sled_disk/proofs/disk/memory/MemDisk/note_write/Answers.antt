@@ -6,7 +6,7 @@ use Rattle.sled_disk.specs.declared.disk.journal.Call.{Call as StoredCall}
 use Rattle.sled_disk.specs.declared.disk.journal.Call.TheVariants as stored
 use Rattle.sled_disk.proofs.Journal.{within-write-more, calls_in-write, after_calls-push}
 use Rattle.sled_disk.specs.DiskLaws.{length-overlaid}
-use Rattle.sled_disk.proofs.Overlays.{bytes-overlaid}
+use Rattle.sled_disk.specs.OverlayLaws.{bytes-overlaid}
 use Rattle.sled_disk.proofs.disk.memory.MemDisk.note_write.Goals as goal
 
 pub invariant_of-self-clause-within : goal.invariant_of-self-clause-within

@@ -1,4 +1,4 @@
-use Rattle.sled_disk.specs.Staged.{tasks_in}
+use Rattle.sled_disk.specs.Tasks.{tasks_in}
 use Rattle.sled_disk.proofs.HandedIn.{seen-sync, still-sync}
 use Rattle.sled_disk.proofs.disk.staged.stage.Stage.sync.Goals as goal
 

@@ -1,5 +1,5 @@
 use Rattle.sled_disk.specs.HandedIn.{seen_in}
-use Rattle.sled_disk.specs.Staged.{tasks_in}
+use Rattle.sled_disk.specs.Tasks.{tasks_in}
 use Rattle.sled_disk.proofs.HandedIn.{stands-after}
 use Rattle.sled_disk.proofs.disk.staged.stage.Stage.take_in.Goals as goal
 

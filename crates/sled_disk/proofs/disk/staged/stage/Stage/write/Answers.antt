@@ -1,7 +1,7 @@
 use Rattle.std.proofs.Common.{◌≡◌, ◌<◌, ◌++◌, [], ◌∷◌, length, ap, rules}
 use Rattle.sled_disk.specs.Disk.{overlaid}
 use Rattle.sled_disk.specs.Journal.{Write}
-use Rattle.sled_disk.specs.Staged.{tasks_in}
+use Rattle.sled_disk.specs.Tasks.{tasks_in}
 use Rattle.sled_disk.proofs.HandedIn.{same-overlaid, seen-write, still-write}
 use Rattle.sled_disk.proofs.disk.staged.stage.Stage.write.Goals as goal
 

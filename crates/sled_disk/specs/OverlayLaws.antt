@@ -5,18 +5,18 @@ use Rattle.sled_disk.specs.Disk.{overlaid}
 abbrev pub AreBytes : List ℕ → Type 0
 AreBytes bytes = (i : ℕ) → get_or bytes i 0 < 256
 
-bytes-append : (xs ys : List ℕ) → AreBytes xs → AreBytes ys → AreBytes (xs ++ ys)
+pub bytes-append : (xs ys : List ℕ) → AreBytes xs → AreBytes ys → AreBytes (xs ++ ys)
 bytes-append [] ys f g i = g i
 bytes-append (x ∷ xs) ys f g zero = f zero
 bytes-append (x ∷ xs) ys f g (suc i) = bytes-append xs ys (λ j. f (suc j)) g i
 
-bytes-take : (n : ℕ) (xs : List ℕ) → AreBytes xs → AreBytes (take n xs)
+pub bytes-take : (n : ℕ) (xs : List ℕ) → AreBytes xs → AreBytes (take n xs)
 bytes-take zero xs f i = omega arith
 bytes-take (suc n) [] f i = f i
 bytes-take (suc n) (x ∷ xs) f zero = f zero
 bytes-take (suc n) (x ∷ xs) f (suc i) = bytes-take n xs (λ j. f (suc j)) i
 
-bytes-drop : (n : ℕ) (xs : List ℕ) → AreBytes xs → AreBytes (drop n xs)
+pub bytes-drop : (n : ℕ) (xs : List ℕ) → AreBytes xs → AreBytes (drop n xs)
 bytes-drop zero xs f i = f i
 bytes-drop (suc n) [] f i = f i
 bytes-drop (suc n) (x ∷ xs) f i = bytes-drop n xs (λ j. f (suc j)) i
