@@ -25,4 +25,5 @@ pub mod Trees
 pub mod Shapes
 pub mod Table
 pub mod Snapshots
+pub mod Served
 pub mod Inside

@@ -1,23 +1,25 @@
 //! What the caller of a cache over a staged disk does for it, between its calls.
 
 ghost use Rattle.std.specs.Prelude.{◌≡◌};
-ghost use Rattle.sled_disk.specs.HandedIn.{Forgets, TakesIn};
-ghost use Rattle.sled_disk.specs.Served.{OnlyDisk};
-ghost use Rattle.sled_disk.specs.Staged.{HandsOut, Fails};
+ghost use Rattle.sled_disk.specs.HandedIn.{StandsAt};
+ghost use Rattle.sled_disk.specs.Served.{OnlyDisk, StaysALog};
+ghost use Rattle.sled_disk.specs.Staged.{Fails, Forgets, HandsOut, TakesIn, holds};
+ghost use Rattle.sled_pagecache.specs.Served.{StaysAsItIs};
 
 use super::PageCache;
-use sled_disk::{DiskLog, StagedDisk, Task};
+use sled_disk::{CallersFile, DiskLog, StagedDisk, Task};
 use sled_log::Log;
 use std::alloc::AllocError;
 
-/// Each of these is the disk's own. The cache stays in its state, and its log does, which is the same but for the disk.
-impl PageCache<DiskLog<StagedDisk>> {
+/// Each of these is the disk's own. The cache stays in its state, and its log does, which is the same but for the disk; a crash meanwhile leaves
+/// what one before might have left.
+impl<F: CallersFile> PageCache<DiskLog<StagedDisk<F>>> {
     /// The next task of the caller, or `None` once nothing waits: `StagedDisk::next_task`.
     pub fn next_task(&mut self, into: &mut [u8]) -> Option<Task>
         ensures next { OnlyDisk (HandsOut result into.new) self.old.log self.new.log }
         ensures same { self.new ≡ record self.old { log = self.new.log } }
-        ensures state { ⟦<DiskLog<StagedDisk> as Log>⟧.state self.new.log
-            ≡ ⟦<DiskLog<StagedDisk> as Log>⟧.state self.old.log }
+        ensures stays { StaysALog ⟦<DiskLog<StagedDisk<F>> as Log>⟧ self.old.log self.new.log }
+        ensures state { StaysAsItIs ⟦<DiskLog<StagedDisk<F>> as Log>⟧ self.old self.new }
     {
         self.sticky_log.log.next_task(into)
     }
@@ -26,10 +28,11 @@ impl PageCache<DiskLog<StagedDisk>> {
     ///
     /// AllocError: there was no memory for a copy of them, and nothing changed.
     pub fn hand_in(&mut self, at: u64, bytes: &[u8]) -> Result<(), AllocError>
+        requires word { F.tells → StandsAt at bytes.now (holds self.old.log.disk) }
         ensures taken { OnlyDisk (TakesIn at bytes.now) self.old.log self.new.log }
         ensures same { self.new ≡ record self.old { log = self.new.log } }
-        ensures state { ⟦<DiskLog<StagedDisk> as Log>⟧.state self.new.log
-            ≡ ⟦<DiskLog<StagedDisk> as Log>⟧.state self.old.log }
+        ensures stays { StaysALog ⟦<DiskLog<StagedDisk<F>> as Log>⟧ self.old.log self.new.log }
+        ensures state { StaysAsItIs ⟦<DiskLog<StagedDisk<F>> as Log>⟧ self.old self.new }
     {
         self.sticky_log.log.hand_in(at, bytes)
     }
@@ -38,18 +41,18 @@ impl PageCache<DiskLog<StagedDisk>> {
     pub fn forget(&mut self)
         ensures forgets { OnlyDisk Forgets self.old.log self.new.log }
         ensures same { self.new ≡ record self.old { log = self.new.log } }
-        ensures state { ⟦<DiskLog<StagedDisk> as Log>⟧.state self.new.log
-            ≡ ⟦<DiskLog<StagedDisk> as Log>⟧.state self.old.log }
+        ensures stays { StaysALog ⟦<DiskLog<StagedDisk<F>> as Log>⟧ self.old.log self.new.log }
+        ensures state { StaysAsItIs ⟦<DiskLog<StagedDisk<F>> as Log>⟧ self.old self.new }
     {
         self.sticky_log.log.forget();
     }
 
-    /// A write or a sync of the caller failed. Nothing waits any more, and each later write is a WriteFault.
+    /// A write or a sync of the caller failed. Nothing is handed out any more, and each later write is a WriteFault.
     pub fn fail(&mut self)
         ensures fails { OnlyDisk Fails self.old.log self.new.log }
         ensures same { self.new ≡ record self.old { log = self.new.log } }
-        ensures state { ⟦<DiskLog<StagedDisk> as Log>⟧.state self.new.log
-            ≡ ⟦<DiskLog<StagedDisk> as Log>⟧.state self.old.log }
+        ensures stays { StaysALog ⟦<DiskLog<StagedDisk<F>> as Log>⟧ self.old.log self.new.log }
+        ensures state { StaysAsItIs ⟦<DiskLog<StagedDisk<F>> as Log>⟧ self.old self.new }
     {
         self.sticky_log.log.fail();
     }

@@ -1,0 +1,9 @@
+-- A cache between two of its calls, while its caller reads and writes for its log.
+use Rattle.sled_log.specs.declared.log.Log.{Ghosts}
+use Rattle.sled_pagecache.specs.Cache.{Cache, Represents}
+use Rattle.sled_pagecache.specs.Logged.{Logged}
+use Rattle.sled_pagecache.specs.State.{State}
+
+-- It stays in the state that it is in, whichever that is, and its log holds what it held.
+abbrev pub StaysAsItIs : {L : Type 0} → Ghosts L → Cache L → Cache L → Type 0
+StaysAsItIs g old new = (held : Logged) (s : State) → Represents g old held s → Represents g new held s
