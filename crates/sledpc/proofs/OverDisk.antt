@@ -1,25 +1,15 @@
--- A disk that is given a log, what a buffer over a reader has left at first, and what was served over a cache that was opened.
-use Rattle.std.proofs.Common.{◌≡◌, ℕ, ◌<◌, ◌==◌, if◌then◌else◌, List, [], ◌∷◌, ◌++◌, length, Option, None, Some, Result, Ok, Err, refl, arith, ◌∙◌, ap}
+-- What a buffer over a reader has left at first, and what was served over a cache that was opened.
+use Rattle.std.proofs.Common.{◌≡◌, ℕ, ◌==◌, if◌then◌else◌, List, [], Option, None, Some, Result, Ok, Err, refl, ◌∙◌, ap}
 use Rattle.std.specs.Io.Buffered.{reader_remaining, reader_inner, reader_buffer, reader_capacity}
 use Rattle.std.specs.Io.KnownBytes.{prepend_known}
 use Rattle.std.specs.declared.io.buffered.BufReader.{BufReader}
 use Rattle.sled_base.specs.Order.{Bytes}
 use Rattle.sled_log.specs.declared.log.Log.{Ghosts}
-use Rattle.sled_disk.specs.Disk.{overlaid}
-use Rattle.sled_disk.specs.Format.{opening}
 use Rattle.sled_pagecache.specs.Cache.{Cache}
 use Rattle.sled_pagecache.specs.declared.pagecache.handles.config.Config.{Config}
-use Rattle.sledpc.specs.OverDisk.{IsOpenedOver, RunsOver, ServesOver, with_log}
+use Rattle.sledpc.specs.OverDisk.{IsOpenedOver, RunsOver, ServesOver}
 use Rattle.sledpc.specs.declared.program.Fault.{Fault}
 use Rattle.sledpc.specs.declared.program.Fault.TheVariants.{Opening, Run}
-
-pub made : (seen new : List ℕ) → length seen ≡ 0 → new ≡ overlaid seen 0 (opening ++ 0 ∷ []) → new ≡ with_log seen
-made [] new none is = is
-made (byte ∷ bytes) new none is = absurd (omega (arith, none))
-
-pub had : (seen : List ℕ) → 0 < length seen → seen ≡ with_log seen
-had [] some = absurd (omega (arith, some))
-had (byte ∷ bytes) some = refl
 
 prepend-nothing : (left : Option (List ℕ)) → prepend_known [] left ≡ left
 prepend-nothing None = refl
