@@ -3,11 +3,11 @@ use Rattle.std.proofs.Common.{◌≡◌, List, [], ◌∷◌, ◌++◌, refl, su
 use Rattle.std.specs.Prelude.{Option, None, Some}
 use mathlib.Core.Bool.{Bool, true, false}
 use seplogic.Ra.Ura.{Ura}
-use mir.Syntax.{ty_ptr}
+use mir.Syntax.{ty_ptr, impl, tnil, dnil, Dict}
 use mir.Val.{Val, vbool, vstruct, of_list, has_ty}
 use types.Logic.{Logic}
 use types.Kit.{Item, Goal, Seq, Step, step, ‵, ◌$◌, drop, fsplit, fjoin, fpick, fpack, feq_i, feq_l}
-use denote.RattleType.{Valss}
+use denote.RattleType.{RattleType, Valss}
 use denote.Builtin.{RawPtr, bool}
 use denote.RawPtr.{Ptr, ptr_val}
 use denote.Steps.{nothing}
@@ -21,9 +21,20 @@ use Rattle.std_alloc.proofs.ResultValues.{and_tt}
 use Rattle.std.specs.declared.alloc.Global.{Global}
 use Rattle.std.specs.contracts.impls.GlobalAllocator.TheImpl.{ghosts}
 use Rattle.sled_c.specs.contracts.handle.Handle as handle
-use Rattle.sled_c.specs.contracts.store.Store.{the_row as R}
+use Rattle.sled_disk.specs.contracts.disk.callers_file.UnseenFile as unseen
+use Rattle.sled_disk.specs.contracts.disk.callers_file.UnseenFileCallersFile.TheImpl as caller
+use Rattle.sled_disk.specs.contracts.disk.staged.StagedDiskDisk.TheImpl as disk
+use Rattle.sled_disk.specs.contracts.log.calls.DiskLogLog.TheImpl as log
+use Rattle.sled_c.specs.Unseen.{disk_row, store_row}
 use Rattle.sled_c.specs.Handles.{handle_owns}
 use Rattle.sled_c.proofs.Loosened.{both}
+
+-- the store of a handle: no member of what is known of its disk and log names an `impl`
+abbrev pub no_impl : Dict
+no_impl = impl [] tnil dnil
+
+abbrev pub R : RattleType
+R = store_row (disk.ghosts unseen.the_row caller.ghosts no_impl no_impl) (log.ghosts disk_row (disk.ghosts unseen.the_row caller.ghosts no_impl no_impl) no_impl no_impl)
 
 abbrev pub word : Ptr → Bool → Val
 word p b = both (ptr_val p) (vbool b)

@@ -3,31 +3,33 @@ use Rattle.std.proofs.Common.{◌≡◌, ℕ, Option, None, Some, Result, Ok, Er
 use Rattle.sled_base.specs.declared.types.Error.{Error}
 use Rattle.sled_log.specs.declared.log.Log.{Ghosts}
 use Rattle.sled_log.specs.declared.memory.MemLog.{MemLog}
+use Rattle.sled_disk.specs.declared.disk.Disk as disks
+use Rattle.sled_disk.specs.declared.disk.callers_file.CallersFile as callers
+use Rattle.sled_disk.specs.declared.disk.staged.StagedDisk.{StagedDisk}
 use Rattle.sled_pagecache.specs.Cache.{Cache}
 use Rattle.sled_pagecache.specs.declared.pagecache.handles.config.Config.{Config}
-use Rattle.sled_c.specs.Files.{IsNewLog, IsRead}
-use Rattle.sled_c.specs.Handles.{FileLog}
+use Rattle.sled_c.specs.FileOpenings.{IsNewLog, IsRead}
+use Rattle.sled_c.specs.Files.{OpeningOver}
+use Rattle.sled_c.specs.Handles.{FileLog, StoreOver}
 use Rattle.sled_c.specs.Numbers as number
 use Rattle.sled_c.specs.Numbers.{number_of_error}
 use Rattle.sled_c.specs.Rewriting.{GoesOnOver, IsAnswered, IsStarted, Rewrites, TellsRewritten, TellsStarted}
-use Rattle.sled_c.specs.declared.opening.Opening.{Opening}
-use Rattle.sled_c.specs.declared.store.Store.{Store}
 use Rattle.sled_c.specs.declared.store.Store.TheVariants.{Begun}
 
-module _ {L : Type 0} {g : Ghosts L} {file : Ghosts FileLog} {old left : Cache L} {opening : Opening} {given : FileLog} {answer : Result FileLog (Error × FileLog)}
-    (fresh : IsNewLog file opening given) (is : IsAnswered g file old left given answer) (new : Cache L) (same : new ≡ left) (before after : Option Store) (from : before ≡ Some (Begun opening)) (status : ℕ) where
-  told : TellsRewritten opening.config answer after status → Rewrites g file old new before after status
+module _ {L : Type 0} {g : Ghosts L} {F : Type 0} {f : callers.Ghosts F} {d : disks.Ghosts (StagedDisk F f)} {l : Ghosts (FileLog d)} {old left : Cache L} {opening : OpeningOver l} {given : FileLog d} {answer : Result (FileLog d) (Error × FileLog d)}
+    (fresh : IsNewLog opening given) (is : IsAnswered g l old left given answer) (new : Cache L) (same : new ≡ left) (before after : Option (StoreOver l)) (from : before ≡ Some (Begun opening)) (status : ℕ) where
+  told : TellsRewritten opening.config answer after status → Rewrites g old new before after status
   told tells =
-      subst (λ (c : Cache L). Rewrites g file old c before after status) (sym same)
-      (subst (λ (b : Option Store). Rewrites g file old left b after status) (sym from) (inr (given, fresh, (answer, is, tells))))
+      subst (λ (c : Cache L). Rewrites g old c before after status) (sym same)
+      (subst (λ (b : Option (StoreOver l)). Rewrites g old left b after status) (sym from) (inr (given, fresh, (answer, is, tells))))
 
-  pub told_done : (log : FileLog) (then : Opening) → answer ≡ Ok log → after ≡ Some (Begun then) → status ≡ number.ok → then.config ≡ opening.config → IsRead then log → Rewrites g file old new before after status
+  pub told_done : (log : FileLog d) (then : OpeningOver l) → answer ≡ Ok log → after ≡ Some (Begun then) → status ≡ number.ok → then.config ≡ opening.config → IsRead then log → Rewrites g old new before after status
   told_done log then ea et es ec has =
-      told (subst (λ (a : Result FileLog (Error × FileLog)). TellsRewritten opening.config a after status) (sym ea)
-      (subst (λ (t : Option Store). TellsRewritten opening.config (Ok log) t status) (sym et) (es, ec, has)))
+      told (subst (λ (a : Result (FileLog d) (Error × FileLog d)). TellsRewritten opening.config a after status) (sym ea)
+      (subst (λ (t : Option (StoreOver l)). TellsRewritten opening.config (Ok log) t status) (sym et) (es, ec, has)))
 
-  pub told_refused : (e : Error × FileLog) → answer ≡ Err e → after ≡ None → status ≡ number_of_error e.0 → Rewrites g file old new before after status
-  told_refused e ea et es = told (subst (λ (a : Result FileLog (Error × FileLog)). TellsRewritten opening.config a after status) (sym ea) (es, et))
+  pub told_refused : (e : Error × FileLog d) → answer ≡ Err e → after ≡ None → status ≡ number_of_error e.0 → Rewrites g old new before after status
+  told_refused e ea et es = told (subst (λ (a : Result (FileLog d) (Error × FileLog d)). TellsRewritten opening.config a after status) (sym ea) (es, et))
 
 module _ (config : Config) {answer : Result MemLog (Error × MemLog)} (old new : Cache MemLog) (status : ℕ) where
   -- the rewriting was refused

@@ -6,6 +6,8 @@ pub mod Found
 pub mod Values
 pub mod Steps
 pub mod Handles
+pub mod Unseen
 pub mod Openings
 pub mod Files
+pub mod FileOpenings
 pub mod Rewriting

@@ -9,10 +9,14 @@ use Rattle.sled_pagecache.specs.Cache.{Cache, Represents}
 use Rattle.sled_pagecache.specs.Logged.{Logged}
 use Rattle.sled_pagecache.specs.Opening.{RefusesOpening, fault_of, opened_state}
 use Rattle.sled_pagecache.specs.declared.pagecache.handles.config.Config.{Config}
+use Rattle.sled_log.specs.declared.log.Log.{Ghosts}
+use Rattle.sled_disk.specs.declared.disk.Disk as disks
+use Rattle.sled_disk.specs.declared.disk.callers_file.CallersFile as callers
+use Rattle.sled_disk.specs.declared.disk.staged.StagedDisk.{StagedDisk}
+use Rattle.sled_c.specs.Handles.{FileLog, StoreOver}
 use Rattle.sled_c.specs.Numbers as number
 use Rattle.sled_c.specs.Numbers.{number_of_error}
 use Rattle.sled_c.specs.declared.exports.opening.Settings.{Settings}
-use Rattle.sled_c.specs.declared.store.Store.{Store}
 use Rattle.sled_c.specs.declared.store.Store.TheVariants.{Memory}
 
 abbrev pub config_of : Settings → Config
@@ -28,7 +32,7 @@ pub record IsNew (config : Config) (cache : Cache MemLog) : Type 0 where
   pub stable : held.pending ≡ []
   pub closed : cache.batch ≡ false
 
-abbrev pub IsNewStore : Settings → Store → Type 0
+abbrev pub IsNewStore : {F : Type 0} {f : callers.Ghosts F} {d : disks.Ghosts (StagedDisk F f)} {l : Ghosts (FileLog d)} → Settings → StoreOver l → Type 0
 IsNewStore settings (Memory cache) = IsNew (config_of settings) cache
 IsNewStore settings store = ⊥
 
@@ -40,7 +44,7 @@ pub record TellsWhy (settings : Settings) (status : ℕ) : Type 0 where
   pub settings_first : (fault : Why) → fault_of (config_of settings) ≡ Some fault → error ≡ Unsupported fault
 
 -- A closed handle is opened, or stays closed. An open one stays.
-abbrev pub OpenHandle : Settings → Option Store → Option Store → ℕ → Type 0
+abbrev pub OpenHandle : {F : Type 0} {f : callers.Ghosts F} {d : disks.Ghosts (StagedDisk F f)} {l : Ghosts (FileLog d)} → Settings → Option (StoreOver l) → Option (StoreOver l) → ℕ → Type 0
 OpenHandle settings (Some old) new status = (status ≡ number.already_open) × (new ≡ Some old)
 OpenHandle settings None (Some new) status = (status ≡ number.ok) × IsNewStore settings new
 OpenHandle settings None None status = TellsWhy settings status

@@ -20,13 +20,15 @@ use Rattle.sled_pagecache.specs.Memory.{KeepsMemory}
 use Rattle.sled_pagecache.specs.Opening.{IsBlamedOpening, Opens, RefusesOpening, fault_of}
 use Rattle.sled_pagecache.specs.Rewriting.{IsBlamedRewriting, IsFullFor, IsRewritten, StaysInState}
 use Rattle.sled_pagecache.specs.declared.pagecache.handles.config.Config.{Config}
-use Rattle.sled_c.specs.Files.{IsNewLog, IsNotNew, IsRead}
-use Rattle.sled_c.specs.Handles.{FileLog}
+use Rattle.sled_disk.specs.declared.disk.Disk as disks
+use Rattle.sled_disk.specs.declared.disk.callers_file.CallersFile as callers
+use Rattle.sled_disk.specs.declared.disk.staged.StagedDisk.{StagedDisk}
+use Rattle.sled_c.specs.FileOpenings.{IsNewLog, IsNotNew, IsRead}
+use Rattle.sled_c.specs.Handles.{FileLog, StoreOver}
 use Rattle.sled_c.specs.Numbers as number
 use Rattle.sled_c.specs.Numbers.{number_of_error}
 use Rattle.sled_c.specs.Openings.{config_of}
 use Rattle.sled_c.specs.declared.exports.opening.Settings.{Settings}
-use Rattle.sled_c.specs.declared.store.Store.{Store}
 use Rattle.sled_c.specs.declared.store.Store.TheVariants.{Memory, File, Begun}
 
 -- What `rewrite_into` answers of a cache, and leaves of it, where it is given this log.
@@ -43,25 +45,26 @@ pub record IsAnswered {L M : Type 0} (g : Ghosts L) (h : Ghosts M) (old new : Ca
   pub full : g.tells → h.tells → old.fault ≡ false → IfErr answer (λ e. e.0 ≡ Unsupported LogFull → IsFullFor g h old given)
   pub unnamed : IfErr answer (λ e. HasNoName e.0)
 
--- The log that was answered lies behind the handle, over which a cache can be opened with the same settings; or the handle is closed, and the
--- error is told.
-abbrev pub TellsRewritten : Config → Result FileLog (Error × FileLog) → Option Store → ℕ → Type 0
-TellsRewritten config (Ok log) (Some (Begun opening)) status = (status ≡ number.ok) × (opening.config ≡ config) × IsRead opening log
-TellsRewritten config (Ok log) into status = ⊥
-TellsRewritten config (Err refused) into status = (status ≡ number_of_error refused.0) × (into ≡ None)
-
 -- nothing is done
-abbrev pub IsLeft : {L : Type 0} → Cache L → Cache L → Option Store → Option Store → Type 0
+abbrev pub IsLeft : {L S : Type 0} → Cache L → Cache L → Option S → Option S → Type 0
 IsLeft old new before after = (new ≡ old) × (after ≡ before)
 
--- A cache is rewritten into the new log behind the other handle, which has none where it is closed, has a cache, or a log that isn't new.
-abbrev pub Rewrites : {L : Type 0} → Ghosts L → Ghosts FileLog → Cache L → Cache L → Option Store → Option Store → ℕ → Type 0
-Rewrites g file old new None into status = (status ≡ number.closed) × IsLeft old new None into
-Rewrites g file old new (Some (Memory other)) into status = (status ≡ number.already_open) × IsLeft old new (Some (Memory other)) into
-Rewrites g file old new (Some (File other)) into status = (status ≡ number.already_open) × IsLeft old new (Some (File other)) into
-Rewrites g file old new (Some (Begun opening)) into status =
-    ((status ≡ number.closed) × IsNotNew file opening × IsLeft old new (Some (Begun opening)) into)
-    ⊎ ((given : FileLog) × IsNewLog file opening given × ((answer : Result FileLog (Error × FileLog)) × IsAnswered g file old new given answer × TellsRewritten opening.config answer into status))
+module _ {F : Type 0} {f : callers.Ghosts F} {d : disks.Ghosts (StagedDisk F f)} {l : Ghosts (FileLog d)} where
+  -- The log that was answered lies behind the handle, over which a cache can be opened with the same settings; or the handle is closed, and the
+  -- error is told.
+  abbrev pub TellsRewritten : Config → Result (FileLog d) (Error × FileLog d) → Option (StoreOver l) → ℕ → Type 0
+  TellsRewritten config (Ok log) (Some (Begun opening)) status = (status ≡ number.ok) × (opening.config ≡ config) × IsRead opening log
+  TellsRewritten config (Ok log) into status = ⊥
+  TellsRewritten config (Err refused) into status = (status ≡ number_of_error refused.0) × (into ≡ None)
+
+  -- A cache is rewritten into the new log behind the other handle, which has none where it is closed, has a cache, or a log that isn't new.
+  abbrev pub Rewrites : {L : Type 0} → Ghosts L → Cache L → Cache L → Option (StoreOver l) → Option (StoreOver l) → ℕ → Type 0
+  Rewrites g old new None into status = (status ≡ number.closed) × IsLeft old new None into
+  Rewrites g old new (Some (Memory other)) into status = (status ≡ number.already_open) × IsLeft old new (Some (Memory other)) into
+  Rewrites g old new (Some (File other)) into status = (status ≡ number.already_open) × IsLeft old new (Some (File other)) into
+  Rewrites g old new (Some (Begun opening)) into status =
+      ((status ≡ number.closed) × IsNotNew opening × IsLeft old new (Some (Begun opening)) into)
+      ⊎ ((given : FileLog d) × IsNewLog opening given × ((answer : Result (FileLog d) (Error × FileLog d)) × IsAnswered g l old new given answer × TellsRewritten opening.config answer into status))
 
 -- What `start` answers, where it is given this log.
 pub record IsStarted (log : MemLog) (config : Config) (answer : Result (Cache MemLog) (Error × MemLog)) : Type 0 where

@@ -1,28 +1,20 @@
-//! The functions that C calls. Each takes the store out of the handle, makes the call, and puts the store back.
+//! The functions that C calls. Each takes the store out of the handle, makes the call, and puts the store back. The file of the caller is out of
+//! sight here (`UnseenFile`), so what a call does over a file that keeps its word is said of the function that is called.
 //!
 //! - `opening`: opening a cache in memory, closing a handle, and the texts of statuses
 //! - `file`: opening a cache over a file
-//! - `device`: what the program reads and writes for one
 //! - `rewriting`: rewriting a cache into another log
-//! - `pages`, `roots`, `batches`, `log`: as in `calls`
+//! - `device`, `pages`, `roots`, `batches`, `log`: as in `through`
 
-// Makes a call on the cache behind a handle, over whichever log that is. A closed handle has no cache, and one of which a file is being
-// opened has none yet.
-macro_rules! through {
-    ($alloc:ident, $handle:ident, $cache:ident => $call:expr) => {{
-        let Some(mut store) = $handle.take($alloc) else {
+// Makes a call on the store behind a handle. A closed one has none.
+macro_rules! behind {
+    ($alloc:ident, $handle:ident, $store:ident => $call:expr) => {{
+        let Some(mut boxed) = $handle.take($alloc) else {
             return CLOSED;
         };
-        let status = match &mut *store {
-            Store::Memory($cache) => $call,
-            Store::File($cache) if has_failed($cache) => WRITE,
-            Store::File($cache) => {
-                let status = $call;
-                told($cache, status)
-            }
-            Store::Begun(_) => CLOSED,
-        };
-        $handle.put($alloc, store);
+        let $store = &mut *boxed;
+        let status = $call;
+        $handle.put($alloc, boxed);
         status
     }};
 }

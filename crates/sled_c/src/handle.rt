@@ -3,11 +3,13 @@
 ghost use Rattle.std.specs.Prelude.{◌≡◌, Option, None, Some};
 ghost use Rattle.std.specs.Coded.{coded_option};
 ghost use Rattle.std.specs.Option.{option_map};
-ghost use Rattle.sled_c.specs.contracts.store.Store.{the_row};
-ghost use Rattle.sled_c.specs.declared.store.Store.{Store};
+ghost use Rattle.sled_c.specs.Unseen.{store_row};
 
 use crate::loose::Loose;
+use crate::opening::FileLog;
 use crate::store::Store;
+use sled_disk::{Disk, StagedDisk, UnseenFile};
+use sled_log::Log;
 use std::alloc::Global;
 use std::marker::{Model, Send};
 use std::{mem, ptr};
@@ -20,16 +22,15 @@ use std::{mem, ptr};
 pub struct Handle {
     at: *mut u8,
     is_open: bool,
-    pub ghost store: { Option Store } by { coded_option the_row.coded },
+    pub ghost store: { Option (store_row ⟦<StagedDisk<UnseenFile> as Disk>⟧ ⟦<FileLog<UnseenFile> as Log>⟧).Denot } by { coded_option (store_row ⟦<StagedDisk<UnseenFile> as Disk>⟧ ⟦<FileLog<UnseenFile> as Log>⟧).coded },
 }
 
 impl Model for Handle {
     ghost use Rattle.std.specs.Prelude.{Option};
-    ghost use Rattle.sled_c.specs.declared.store.Store.{Store};
-    ghost use Rattle.sled_c.specs.contracts.store.Store.{the_row};
     ghost use Rattle.sled_c.specs.Handles.{handle_owns};
+    ghost use Rattle.sled_c.specs.Unseen.{store_row};
 
-    ghost also_owns = { λ h. handle_owns the_row h.at h.is_open h.store };
+    ghost also_owns = { λ h. handle_owns (store_row ⟦<StagedDisk<UnseenFile> as Disk>⟧ ⟦<FileLog<UnseenFile> as Log>⟧) h.at h.is_open h.store };
 }
 
 // It owns its store alone, which may go to another thread.

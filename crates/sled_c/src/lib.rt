@@ -11,6 +11,7 @@
 //! - `handle`, `loose`: what a program keeps of a store, and a box as its pointer
 //! - `calls`: what each call does with a cache, over any log
 //! - `file`: what a call over a file is answered
+//! - `through`: what each call does with what lies behind a handle, over any file of a caller
 //! - `output`: bytes that are written for the program
 //! - `pairs`: the pairs of a node as bytes
 //! - `laws`: that what is written of a leaf is read again
@@ -28,3 +29,4 @@ mod output;
 mod pairs;
 mod status;
 mod store;
+mod through;

@@ -1,12 +1,15 @@
 //! Opening a cache over a file, of which the program hands in the bytes.
 
-ghost use Rattle.std.specs.Prelude.{◌≡◌, None, true, IfOk, IfErr, IfSome, IfNone};
+ghost use Rattle.std.specs.Prelude.{◌≡◌, ℕ, List, None, length, true, IfOk, IfErr, IfSome, IfNone, OnOk};
+ghost use Rattle.sled_log.specs.declared.log.LogError.TheVariants.{ReadFault};
+ghost use Rattle.sled_disk.specs.CallersFile.{held_after};
+ghost use Rattle.sled_disk.specs.Staged.{seen_of};
 ghost use Rattle.sled_pagecache.specs.Opening.{MayBeOpened, fault_of};
-ghost use Rattle.sled_c.specs.Files.{HasRead, IsFailure, IsNotNew, IsOpened, IsRead, TellsFault, new_size};
+ghost use Rattle.sled_c.specs.FileOpenings.{HasRead, IsFailure, IsLogOver, IsNotNew, IsOpened, IsOpenedOver, IsOpeningOver, IsRead, TellsFault, new_size, with_log};
 
 use crate::status::{READ, status_of};
-use read_log::ReadLog;
-use sled_disk::{DiskLog, Reader, StagedDisk};
+use read_log::{PartRead, ReadLog};
+use sled_disk::{CallersFile, DiskLog, Reader, StagedDisk};
 use sled_log::LogError;
 use sled_pagecache::{Config, Disk, Error, Log, PageCache};
 use std::alloc::Global;
@@ -15,10 +18,10 @@ mod read_log;
 mod served;
 
 /// A log in a file that the program reads and writes.
-pub type FileLog = DiskLog<StagedDisk>;
+pub type FileLog<F> = DiskLog<StagedDisk<F>>;
 
 /// A cache over one.
-pub type FileCache = PageCache<FileLog>;
+pub type FileCache<F> = PageCache<FileLog<F>>;
 
 // So many bytes has the file of a log that holds nothing.
 const NEW_SIZE: u64 = 9;
@@ -28,38 +31,41 @@ const NEW_SIZE: u64 = 9;
 /// Where bytes are needed the call is made again with these, and goes on. While the log is read one piece at a time is needed, and let
 /// go before the next.
 #[derive(Drop)]
-pub struct Opening {
+pub struct Opening<F: CallersFile, L: Log = FileLog<F>> {
     config: Config,
     // none while a call goes on, and behind one that failed
-    step: Option<Step>,
+    step: Option<Step<F, L>>,
     needs: Option<(u64, usize)>,
 }
 
 // How far an opening has come.
 #[derive(Drop)]
-enum Step {
+enum Step<F: CallersFile, L: Log = FileLog<F>> {
     // nothing was read
-    Unread(StagedDisk),
+    Unread(StagedDisk<F>),
     // a part of the log was
-    Reading(Reader, StagedDisk),
+    Reading(PartRead<F>),
     // all of it was, and isn't known to be durable
-    Unsynced(Reader, StagedDisk),
+    Unsynced(PartRead<F>),
     // all of it was, and is durable
-    Read(ReadLog),
+    Read(ReadLog<L>),
 }
 
-impl Opening {
+impl<F: CallersFile> Opening<F> {
     /// Begins with a file of so many bytes, unless something is wrong with the settings. One of none is given an empty log.
-    pub fn new(alloc: Global, config: Config, len: u64) -> Result<Opening, u32>
+    pub fn new(alloc: Global, config: Config, file: F, len: u64) -> Result<Opening<F>, u32>
+        requires len { F.tells → len ≡ length (held_after (F.first file) (F.done file)) }
         ensures config { IfOk result (λ opening. opening.config ≡ config) }
         ensures faultless { IfOk result (λ opening. fault_of config ≡ None) }
         ensures settings { IfErr result (TellsFault config) }
         ensures fails { IfErr result IsFailure }
+        ensures over { F.tells
+            → IfOk result (IsOpeningOver (with_log (held_after (F.first file) (F.done file)))) }
     {
         if let Some(why) = config.fault() {
             return Err(status_of(&Error::Unsupported(why)));
         }
-        let mut disk = StagedDisk::new(alloc, len);
+        let mut disk = StagedDisk::over(alloc, file, len);
         if len == 0
             && let Err(error) = DiskLog::create(&mut disk)
         {
@@ -80,8 +86,12 @@ impl Opening {
     }
 
     /// Goes on: the cache, or none where bytes are needed, or a status that tells why there will be none.
-    pub fn go_on(&mut self, alloc: Global) -> Result<Option<FileCache>, u32>
+    pub fn go_on(&mut self, alloc: Global) -> Result<Option<FileCache<F>>, u32>
         ensures opened { IfOk result (λ found. IfSome found (IsOpened self.old.config)) }
+        ensures over { F.tells → (bytes : List ℕ) → IsOpeningOver bytes self.old
+            → IfOk result (λ found. IfSome found (IsOpenedOver ⟦<FileLog<F> as Log>⟧ self.old.config bytes)) }
+        ensures waits { F.tells → (bytes : List ℕ) → IsOpeningOver bytes self.old
+            → IfOk result (λ found. IfNone found (IsOpeningOver bytes self.new)) }
         ensures fails { IfErr result IsFailure }
         ensures config { self.new.config ≡ self.old.config }
     {
@@ -94,6 +104,8 @@ impl Opening {
     /// Goes on until the log is read, and no further: whether it is, or bytes are needed; or a status that tells why it won't be.
     pub fn read_log(&mut self, alloc: Global) -> Result<bool, u32>
         ensures read { IfOk result (λ is_read. is_read ≡ true → HasRead self.new) }
+        ensures over { F.tells → (bytes : List ℕ) → IsOpeningOver bytes self.old
+            → OnOk result (IsOpeningOver bytes self.new) }
         ensures fails { IfErr result IsFailure }
         ensures config { self.new.config ≡ self.old.config }
     {
@@ -105,11 +117,11 @@ impl Opening {
     }
 
     /// Takes out the log, if it was read and holds nothing.
-    pub fn take_new_log(&mut self) -> Option<FileLog>
+    pub fn take_new_log(&mut self) -> Option<FileLog<F>>
         ensures some { IfSome result (λ log. IsRead self.old log) }
-        ensures new { IfSome result (λ log. ⟦<FileLog as Log>⟧.bytes log ≡ new_size) }
-        ensures may { IfSome result (MayBeOpened ⟦<FileLog as Log>⟧) }
-        ensures none { IfNone result (IsNotNew ⟦<FileLog as Log>⟧ self.old) }
+        ensures new { IfSome result (λ log. ⟦<FileLog<F> as Log>⟧.bytes log ≡ new_size) }
+        ensures may { IfSome result (MayBeOpened ⟦<FileLog<F> as Log>⟧) }
+        ensures none { IfNone result (IsNotNew self.old) }
         ensures kept { IfNone result (self.new ≡ self.old) }
         ensures config { self.new.config ≡ self.old.config }
     {
@@ -127,8 +139,8 @@ impl Opening {
     }
 
     /// Puts a log there, over which a cache can be opened.
-    pub fn put_log(&mut self, log: FileLog)
-        requires { MayBeOpened ⟦<FileLog as Log>⟧ log }
+    pub fn put_log(&mut self, log: FileLog<F>)
+        requires { MayBeOpened ⟦<FileLog<F> as Log>⟧ log }
         ensures read { IsRead self.new log }
         ensures config { self.new.config ≡ self.old.config }
     {
@@ -137,7 +149,11 @@ impl Opening {
     }
 
     // Goes on until the log is read: that, or none where bytes are needed, or a status that tells why it won't be.
-    fn read_on(&mut self, alloc: Global) -> Result<Option<ReadLog>, u32>
+    fn read_on(&mut self, alloc: Global) -> Result<Option<ReadLog<FileLog<F>>>, u32>
+        ensures over { F.tells → (bytes : List ℕ) → IsOpeningOver bytes self.old
+            → IfOk result (λ found. IfSome found (λ read. IsLogOver ⟦<FileLog<F> as Log>⟧ self.old.config bytes read.log)) }
+        ensures waits { F.tells → (bytes : List ℕ) → IsOpeningOver bytes self.old
+            → IfOk result (λ found. IfNone found (IsOpeningOver bytes self.new)) }
         ensures fails { IfErr result IsFailure }
         ensures config { self.new.config ≡ self.old.config }
     {
@@ -146,44 +162,55 @@ impl Opening {
         }
         match self.step.take() {
             Some(Step::Unread(disk)) => self.begin(alloc, disk),
-            Some(Step::Reading(reader, disk)) => self.read(alloc, reader, disk),
-            Some(Step::Unsynced(reader, disk)) => self.make_durable(alloc, reader, disk),
+            Some(Step::Reading(part)) => self.read(alloc, part),
+            Some(Step::Unsynced(part)) => self.make_durable(alloc, part),
             Some(Step::Read(read)) => Ok(Some(read)),
             None => Err(status_of_log(LogError::WriteFault)),
         }
     }
 
     // Begins to read the log.
-    fn begin(&mut self, alloc: Global, mut disk: StagedDisk) -> Result<Option<ReadLog>, u32>
+    fn begin(
+        &mut self,
+        alloc: Global,
+        mut disk: StagedDisk<F>,
+    ) -> Result<Option<ReadLog<FileLog<F>>>, u32>
+        ensures over { F.tells → IfOk result (λ found. IfSome found
+            (λ read. IsLogOver ⟦<FileLog<F> as Log>⟧ self.old.config (seen_of disk) read.log)) }
+        ensures waits { F.tells
+            → IfOk result (λ found. IfNone found (IsOpeningOver (seen_of disk) self.new)) }
         ensures fails { IfErr result IsFailure }
         ensures config { self.new.config ≡ self.old.config }
     {
         match Reader::begin(alloc, &mut disk) {
-            Ok(reader) => self.read(alloc, reader, disk),
+            Ok(reader) => self.read(alloc, PartRead { reader, disk }),
             Err(error) => {
-                let needs = disk.needs();
-                self.wait(status_of_log(error), needs, Step::Unread(disk))?;
+                self.wait(error, disk.needs())?;
+                self.step = Some(Step::Unread(disk));
                 Ok(None)
             }
         }
     }
 
     // Reads the log on. The piece that was handed in has been taken by the reader, and is let go.
-    fn read(
-        &mut self,
-        alloc: Global,
-        mut reader: Reader,
-        mut disk: StagedDisk,
-    ) -> Result<Option<ReadLog>, u32>
+    fn read(&mut self, alloc: Global, part: PartRead<F>) -> Result<Option<ReadLog<FileLog<F>>>, u32>
+        ensures over { F.tells → IfOk result (λ found. IfSome found
+            (λ read. IsLogOver ⟦<FileLog<F> as Log>⟧ self.old.config (seen_of part.disk) read.log)) }
+        ensures waits { F.tells
+            → IfOk result (λ found. IfNone found (IsOpeningOver (seen_of part.disk) self.new)) }
         ensures fails { IfErr result IsFailure }
         ensures config { self.new.config ≡ self.old.config }
     {
+        let PartRead {
+            mut reader,
+            mut disk,
+        } = part;
         match reader.read(&mut disk) {
-            Ok(_) => self.make_durable(alloc, reader, disk),
+            Ok(_) => self.make_durable(alloc, PartRead { reader, disk }),
             Err(error) => {
-                let needs = disk.needs();
+                self.wait(error, disk.needs())?;
                 disk.forget();
-                self.wait(status_of_log(error), needs, Step::Reading(reader, disk))?;
+                self.step = Some(Step::Reading(PartRead { reader, disk }));
                 Ok(None)
             }
         }
@@ -193,31 +220,43 @@ impl Opening {
     fn make_durable(
         &mut self,
         alloc: Global,
-        reader: Reader,
-        mut disk: StagedDisk,
-    ) -> Result<Option<ReadLog>, u32>
+        part: PartRead<F>,
+    ) -> Result<Option<ReadLog<FileLog<F>>>, u32>
+        ensures over { F.tells → IfOk result (λ found. IfSome found
+            (λ read. IsLogOver ⟦<FileLog<F> as Log>⟧ self.old.config (seen_of part.disk) read.log)) }
+        ensures waits { F.tells
+            → IfOk result (λ found. IfNone found (IsOpeningOver (seen_of part.disk) self.new)) }
         ensures fails { IfErr result IsFailure }
         ensures config { self.new.config ≡ self.old.config }
     {
+        let PartRead { reader, mut disk } = part;
         if let Err(error) = reader.make_durable(&mut disk) {
-            let needs = disk.needs();
-            self.wait(status_of_log(error), needs, Step::Unsynced(reader, disk))?;
+            self.wait(error, disk.needs())?;
+            self.step = Some(Step::Unsynced(PartRead { reader, disk }));
             return Ok(None);
         }
         let segment_size = self.config.segment_size as u64;
         match DiskLog::open_with(alloc, reader, disk, segment_size, 0) {
             Ok(log) => Ok(Some(ReadLog { log })),
             Err((error, reader, disk)) => {
-                let needs = disk.needs();
-                self.wait(status_of_log(error), needs, Step::Unsynced(reader, disk))?;
+                self.wait(error, disk.needs())?;
+                self.step = Some(Step::Unsynced(PartRead { reader, disk }));
                 Ok(None)
             }
         }
     }
 
     // Starts the cache over its log.
-    fn start(&mut self, alloc: Global, read: ReadLog) -> Result<Option<FileCache>, u32>
+    fn start(
+        &mut self,
+        alloc: Global,
+        read: ReadLog<FileLog<F>>,
+    ) -> Result<Option<FileCache<F>>, u32>
         ensures opened { IfOk result (λ found. IfSome found (IsOpened self.old.config)) }
+        ensures over { F.tells → (bytes : List ℕ) → IsLogOver ⟦<FileLog<F> as Log>⟧ self.old.config bytes read.log
+            → IfOk result (λ found. IfSome found (IsOpenedOver ⟦<FileLog<F> as Log>⟧ self.old.config bytes)) }
+        ensures waits { F.tells → (bytes : List ℕ) → IsLogOver ⟦<FileLog<F> as Log>⟧ self.old.config bytes read.log
+            → IfOk result (λ found. IfNone found (IsOpeningOver bytes self.new)) }
         ensures fails { IfErr result IsFailure }
         ensures config { self.new.config ≡ self.old.config }
     {
@@ -228,26 +267,26 @@ impl Opening {
             }
             Err((error, log)) => {
                 let status = status_of(&error);
-                if status != READ {
+                let needs = log.disk().needs();
+                if status != READ || needs.is_none() {
                     return Err(status);
                 }
-                let needs = log.disk().needs();
-                self.wait(status, needs, Step::Read(ReadLog { log }))?;
+                self.step = Some(Step::Read(ReadLog { log }));
+                self.needs = needs;
                 Ok(None)
             }
         }
     }
 
     // Waits for bytes, where some are needed and a read failed.
-    fn wait(&mut self, status: u32, needs: Option<(u64, usize)>, step: Step) -> Result<(), u32>
-        requires { IsFailure status }
+    fn wait(&mut self, error: LogError, needs: Option<(u64, usize)>) -> Result<(), u32>
+        ensures read { OnOk result (error ≡ ReadFault) }
         ensures fails { IfErr result IsFailure }
         ensures config { self.new.config ≡ self.old.config }
     {
-        if status != READ || needs.is_none() {
-            return Err(status);
+        if error != LogError::ReadFault || needs.is_none() {
+            return Err(status_of_log(error));
         }
-        self.step = Some(step);
         self.needs = needs;
         Ok(())
     }

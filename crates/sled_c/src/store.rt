@@ -1,35 +1,34 @@
 //! What lies behind a handle.
 
 ghost use Rattle.std.specs.Prelude.{◌≡◌, None, IsOk};
-ghost use Rattle.sled_disk.specs.HandedIn.{Forgets, TakesIn};
-ghost use Rattle.sled_disk.specs.Staged.{Fails, HandsOut};
+ghost use Rattle.sled_disk.specs.Staged.{Fails, Forgets, HandsOut, TakesIn};
 ghost use Rattle.sled_log.specs.declared.memory.MemLog.{MemLog};
 ghost use Rattle.sled_pagecache.specs.Cache.{Cache};
 ghost use Rattle.sled_c.specs.declared.store.Store.TheVariants.{Memory};
 
-use crate::opening::Opening;
-use sled_disk::{DiskLog, StagedDisk, Task};
-use sled_pagecache::{MemLog, PageCache};
+use crate::opening::{FileLog, Opening};
+use sled_disk::{CallersFile, Task, UnseenFile};
+use sled_pagecache::{Log, MemLog, PageCache};
 use std::alloc::AllocError;
 
 /// An open cache, over one of the logs that programs may choose, or a file of which one is being opened.
 #[derive(Drop)]
-pub enum Store {
+pub enum Store<F: CallersFile = UnseenFile, L: Log = FileLog<F>> {
     /// Over a log in memory.
     Memory(PageCache<MemLog>),
     /// Over a log in a file, which the program reads and writes.
-    File(PageCache<DiskLog<StagedDisk>>),
+    File(PageCache<L>),
     /// A file of which a part was read, and no cache yet.
-    Begun(Opening),
+    Begun(Opening<F, L>),
 }
 
 /// What is asked of the disk of the file, and told it. In memory there is none: nothing waits, and nothing changes.
-impl Store {
-    ghost use Rattle.sled_c.specs.Files.{StoreIsBut, failed_in, needed_in};
+impl<F: CallersFile> Store<F> {
+    ghost use Rattle.sled_c.specs.Files.{AreIn, StoreIsBut, disk_in, has_failed, needed_in};
 
     /// Whether a write or a sync of the file failed.
     pub fn has_failed(&self) -> bool
-        ensures { result ≡ failed_in self.now }
+        ensures { result ≡ has_failed (disk_in self.now) }
     {
         match self {
             Store::Memory(_) => false,
@@ -64,6 +63,7 @@ impl Store {
 
     /// Hands in bytes of the file, from a place on, or lacks memory for them.
     pub fn hand_in(&mut self, at: u64, bytes: &[u8]) -> Result<(), AllocError>
+        requires word { F.tells → AreIn at bytes.now (disk_in self.old) }
         ensures taken { StoreIsBut (TakesIn at bytes.now) self.old self.new }
         ensures memory { (cache : Cache MemLog) → self.old ≡ Memory cache → IsOk result }
     {

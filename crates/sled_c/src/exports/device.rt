@@ -1,26 +1,14 @@
 //! What the program reads and writes for a cache over a file.
 
 ghost use Rattle.std.specs.Prelude.{◌≡◌};
-ghost use Rattle.sled_disk.specs.HandedIn.{Forgets};
-ghost use Rattle.sled_disk.specs.Staged.{Fails};
-ghost use Rattle.sled_c.specs.Files.{Asks, HandsIn, HandsTask, Tells, TellsNeeds, needed_in, nothing_to_do, told_task};
+ghost use Rattle.sled_disk.specs.Staged.{Fails, Forgets};
+ghost use Rattle.sled_c.specs.Files.{Asks, HandsIn, HandsTask, Tells, TellsNeeds, needed_in, nothing_to_do};
 
 use crate::handle::Handle;
-use crate::status::{CLOSED, MEMORY, OK, WRITE};
-use sled_disk::Task;
+use crate::status::{CLOSED, OK};
+use crate::through::device as through;
+use crate::through::device::FileTask;
 use std::alloc::Global;
-
-/// What the program does next to the file.
-#[repr(C)]
-#[derive(Clone, Copy)]
-pub struct FileTask {
-    /// 0 for nothing, 1 for a write, and 2 for a sync.
-    pub kind: u32,
-    /// The place of the first byte of a write.
-    pub at: u64,
-    /// How many bytes a write has, which stand at the front of the buffer.
-    pub len: usize,
-}
 
 /// Writes what the program does next to the file, and the bytes of a write to the front of the buffer.
 #[unsafe(no_mangle)]
@@ -35,36 +23,7 @@ pub extern "C" fn dilluvas_raw_next_task(
         ((task.new ≡ nothing_to_do) × (buffer.new ≡ buffer.old))
         (λ old new. HandsTask task.new buffer.new old new) }
 {
-    let Some(mut store) = handle.take(alloc) else {
-        return CLOSED;
-    };
-    let status = if store.has_failed() {
-        WRITE
-    } else {
-        *task = task_of(store.next_task(buffer));
-        OK
-    };
-    handle.put(alloc, store);
-    status
-}
-
-// A task as the program reads it.
-fn task_of(task: Option<Task>) -> FileTask
-    ensures { result ≡ told_task task }
-{
-    match task {
-        None => FileTask {
-            kind: 0,
-            at: 0,
-            len: 0,
-        },
-        Some(Task::Write { at, len }) => FileTask { kind: 1, at, len },
-        Some(Task::Sync) => FileTask {
-            kind: 2,
-            at: 0,
-            len: 0,
-        },
-    }
+    behind!(alloc, handle, store => through::next_task(store, task, buffer))
 }
 
 /// Writes the place of the bytes that are needed and how many they are, or 0 where none are.
@@ -79,17 +38,7 @@ pub extern "C" fn dilluvas_raw_needs(
         ((at.new ≡ at.old) × (len.new ≡ len.old)) ((at.new ≡ 0) × (len.new ≡ 0))
         (λ old new. (new ≡ old) × TellsNeeds (needed_in old) at.new len.new) }
 {
-    let Some(store) = handle.take(alloc) else {
-        return CLOSED;
-    };
-    let status = if store.has_failed() {
-        WRITE
-    } else {
-        (*at, *len) = store.needs().unwrap_or((0, 0));
-        OK
-    };
-    handle.put(alloc, store);
-    status
+    behind!(alloc, handle, store => through::needs(store, at, len))
 }
 
 /// Hands in bytes of the file, from a place on.
@@ -102,19 +51,7 @@ pub extern "C" fn dilluvas_raw_hand_in(
 ) -> u32
     ensures { HandsIn at bytes.now handle.old.store handle.new.store result }
 {
-    let Some(mut store) = handle.take(alloc) else {
-        return CLOSED;
-    };
-    let status = if store.has_failed() {
-        WRITE
-    } else {
-        match store.hand_in(at, bytes) {
-            Ok(()) => OK,
-            Err(_) => MEMORY,
-        }
-    };
-    handle.put(alloc, store);
-    status
+    behind!(alloc, handle, store => through::hand_in(store, at, bytes))
 }
 
 /// The bytes that are needed couldn't be read: they aren't any more, and what was handed in is let go.

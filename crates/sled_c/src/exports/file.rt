@@ -1,13 +1,16 @@
 //! Opening a cache over a file.
 
-ghost use Rattle.std.specs.Prelude.{◌≡◌, None, IfOk, IfErr};
+ghost use Rattle.std.specs.Prelude.{◌≡◌, ℕ, List, None, length, IfOk, IfErr, OnOk};
+ghost use Rattle.sled_disk.specs.CallersFile.{held_after};
 ghost use Rattle.sled_pagecache.specs.Opening.{fault_of};
-ghost use Rattle.sled_c.specs.Files.{GoesOnIn, IsBegun, IsBeingOpened, IsFailure, OpenFile, OpenLog, ReadsOnIn, TellsFault, config_of};
+ghost use Rattle.sled_pagecache.specs.declared.pagecache.handles.config.Config.{Config};
+ghost use Rattle.sled_c.specs.FileOpenings.{GoesOnIn, IsBegun, IsBeingOpened, IsFailure, IsStoreOver, OpenFile, OpenLog, ReadsOnIn, TellsFault, config_of, with_log};
 
 use crate::handle::Handle;
 use crate::opening::Opening;
 use crate::status::{ALREADY_OPEN, MEMORY, NEEDS, OK};
 use crate::store::Store;
+use sled_disk::{CallersFile, UnseenFile};
 use sled_pagecache::Config;
 use std::alloc::Global;
 
@@ -36,7 +39,7 @@ pub extern "C" fn dilluvas_raw_open_file(
 {
     let begun = match handle.take(alloc) {
         Some(store) => Ok(store),
-        None => new_store(alloc, *settings, len),
+        None => new_store(alloc, *settings, UnseenFile, len),
     };
     let mut store = match begun {
         Ok(store) => store,
@@ -52,24 +55,34 @@ pub extern "C" fn dilluvas_raw_open_file(
 }
 
 // A store of which nothing was read.
-fn new_store(alloc: Global, settings: FileSettings, len: u64) -> Result<Box<Store>, u32>
+fn new_store<F: CallersFile>(
+    alloc: Global,
+    settings: FileSettings,
+    file: F,
+    len: u64,
+) -> Result<Box<Store<F>>, u32>
+    requires len { F.tells → len ≡ length (held_after (F.first file) (F.done file)) }
     ensures begun { IfOk result (λ store. IsBegun (config_of settings) store.value) }
     ensures faultless { IfOk result (λ store. fault_of (config_of settings) ≡ None) }
     ensures settings { IfErr result (TellsFault (config_of settings)) }
     ensures fails { IfErr result IsFailure }
+    ensures over { F.tells → IfOk result (λ store. IsStoreOver (config_of settings)
+        (with_log (held_after (F.first file) (F.done file))) store.value) }
 {
     let config = Config {
         cache_capacity: settings.cache_capacity,
         idgen_persist_interval: settings.idgen_persist_interval,
         segment_size: settings.segment_size,
     };
-    let opening = Opening::new(alloc, config, len)?;
+    let opening = Opening::new(alloc, config, file, len)?;
     Box::new(alloc, Store::Begun(opening)).map_err(|_| MEMORY)
 }
 
 // Goes on with an opening. The handle is to be closed where it failed.
-fn go_on(alloc: Global, store: &mut Store) -> Result<u32, u32>
+fn go_on<F: CallersFile>(alloc: Global, store: &mut Store<F>) -> Result<u32, u32>
     ensures goes_on { IfOk result (GoesOnIn store.old store.new) }
+    ensures over { F.tells → (config : Config) (bytes : List ℕ) → IsStoreOver config bytes store.old
+        → OnOk result (IsStoreOver config bytes store.new) }
     ensures fails { IfErr result IsFailure }
     ensures begun { IfErr result (λ status. IsBeingOpened store.old) }
 {
@@ -97,7 +110,7 @@ pub extern "C" fn dilluvas_raw_new_log(
 {
     let begun = match handle.take(alloc) {
         Some(store) => Ok(store),
-        None => new_store(alloc, *settings, 0),
+        None => new_store(alloc, *settings, UnseenFile, 0),
     };
     let mut store = match begun {
         Ok(store) => store,
@@ -113,8 +126,10 @@ pub extern "C" fn dilluvas_raw_new_log(
 }
 
 // Goes on until the log is read. The handle is to be closed where that failed.
-fn read_on(alloc: Global, store: &mut Store) -> Result<u32, u32>
+fn read_on<F: CallersFile>(alloc: Global, store: &mut Store<F>) -> Result<u32, u32>
     ensures reads_on { IfOk result (ReadsOnIn store.old store.new) }
+    ensures over { F.tells → (config : Config) (bytes : List ℕ) → IsStoreOver config bytes store.old
+        → OnOk result (IsStoreOver config bytes store.new) }
     ensures fails { IfErr result IsFailure }
     ensures begun { IfErr result (λ status. IsBeingOpened store.old) }
 {

@@ -7,14 +7,10 @@ ghost use Rattle.sled_c.specs.Found.{GetsPage};
 ghost use Rattle.sled_c.specs.Steps.{AllocatesLeaf, FreesPage, MakesLink, ReplacesByLeaf};
 ghost use Rattle.sled_c.specs.Values.{GetsValue, written};
 
-use crate::calls::pages as calls;
 use crate::calls::pages::Found;
-use crate::file::{has_failed, told};
 use crate::handle::Handle;
-use crate::opening::FileLog;
-use crate::status::{CLOSED, WRITE};
-use crate::store::Store;
-use sled_pagecache::Log;
+use crate::status::CLOSED;
+use crate::through::pages as through;
 use std::alloc::Global;
 
 /// Puts a leaf of the pairs on a page, and writes which page and its stamp.
@@ -26,12 +22,12 @@ pub extern "C" fn dilluvas_raw_allocate(
     page: &mut u64,
     stamp: &mut u64,
 ) -> u32
-    ensures { Through ⟦<FileLog as Log>⟧ handle.old.store handle.new.store result
+    ensures { Through handle.old.store handle.new.store result
         ((page.new ≡ page.old) × (stamp.new ≡ stamp.old))
         (λ _ g old new status. AllocatesLeaf g old new pairs.now status (page.old, stamp.old)
         (page.new, stamp.new)) }
 {
-    through!(alloc, handle, cache => calls::allocate(alloc, cache, pairs, page, stamp))
+    behind!(alloc, handle, store => through::allocate(alloc, store, pairs, page, stamp))
 }
 
 /// Writes what a page is, and its pairs.
@@ -43,12 +39,12 @@ pub extern "C" fn dilluvas_raw_get(
     found: &mut Found,
     buffer: &mut [u8],
 ) -> u32
-    ensures { Through ⟦<FileLog as Log>⟧ handle.old.store handle.new.store result
+    ensures { Through handle.old.store handle.new.store result
         ((found.new ≡ found.old) × (buffer.new ≡ buffer.old))
         (λ _ g old new status. GetsPage g old new page status (found.old, buffer.old)
         (found.new, buffer.new)) }
 {
-    through!(alloc, handle, cache => calls::get(cache, page, found, buffer))
+    behind!(alloc, handle, store => through::get(store, page, found, buffer))
 }
 
 /// Writes the value of one key of a leaf, and the stamp of the page.
@@ -62,12 +58,12 @@ pub extern "C" fn dilluvas_raw_value(
     buffer: &mut [u8],
     needed: &mut usize,
 ) -> u32
-    ensures { Through ⟦<FileLog as Log>⟧ handle.old.store handle.new.store result
+    ensures { Through handle.old.store handle.new.store result
         (written stamp.new needed.new buffer.new ≡ written stamp.old needed.old buffer.old)
         (λ _ g old new status. GetsValue g old new page key.now status (written stamp.old needed.old
         buffer.old) (written stamp.new needed.new buffer.new)) }
 {
-    through!(alloc, handle, cache => calls::value(cache, page, key, stamp, buffer, needed))
+    behind!(alloc, handle, store => through::value(store, page, key, stamp, buffer, needed))
 }
 
 /// Maps a key of a leaf to a value, where the page is still at the stamp, and writes the stamp that it has now.
@@ -80,11 +76,11 @@ pub extern "C" fn dilluvas_raw_set(
     key: &[u8],
     value: &[u8],
 ) -> u32
-    ensures { Through ⟦<FileLog as Log>⟧ handle.old.store handle.new.store result (stamp.new ≡ stamp.old)
+    ensures { Through handle.old.store handle.new.store result (stamp.new ≡ stamp.old)
         (λ _ g old new status. MakesLink g old new page (Set key.now value.now) status stamp.old
         stamp.new) }
 {
-    through!(alloc, handle, cache => calls::set(alloc, cache, page, stamp, key, value))
+    behind!(alloc, handle, store => through::set(alloc, store, page, stamp, key, value))
 }
 
 /// Takes a key out of a leaf, likewise.
@@ -96,10 +92,10 @@ pub extern "C" fn dilluvas_raw_del(
     stamp: &mut u64,
     key: &[u8],
 ) -> u32
-    ensures { Through ⟦<FileLog as Log>⟧ handle.old.store handle.new.store result (stamp.new ≡ stamp.old)
+    ensures { Through handle.old.store handle.new.store result (stamp.new ≡ stamp.old)
         (λ _ g old new status. MakesLink g old new page (Del key.now) status stamp.old stamp.new) }
 {
-    through!(alloc, handle, cache => calls::del(alloc, cache, page, stamp, key))
+    behind!(alloc, handle, store => through::del(alloc, store, page, stamp, key))
 }
 
 /// Puts a leaf of the pairs on a page in place of what it held, likewise.
@@ -111,10 +107,10 @@ pub extern "C" fn dilluvas_raw_replace(
     stamp: &mut u64,
     pairs: &[u8],
 ) -> u32
-    ensures { Through ⟦<FileLog as Log>⟧ handle.old.store handle.new.store result (stamp.new ≡ stamp.old)
+    ensures { Through handle.old.store handle.new.store result (stamp.new ≡ stamp.old)
         (λ _ g old new status. ReplacesByLeaf g old new page pairs.now status stamp.old stamp.new) }
 {
-    through!(alloc, handle, cache => calls::replace(alloc, cache, page, stamp, pairs))
+    behind!(alloc, handle, store => through::replace(alloc, store, page, stamp, pairs))
 }
 
 /// Frees a page, likewise.
@@ -125,8 +121,8 @@ pub extern "C" fn dilluvas_raw_free(
     page: u64,
     stamp: &mut u64,
 ) -> u32
-    ensures { Through ⟦<FileLog as Log>⟧ handle.old.store handle.new.store result (stamp.new ≡ stamp.old)
+    ensures { Through handle.old.store handle.new.store result (stamp.new ≡ stamp.old)
         (λ _ g old new status. FreesPage g old new page status stamp.old stamp.new) }
 {
-    through!(alloc, handle, cache => calls::free(cache, page, stamp))
+    behind!(alloc, handle, store => through::free(store, page, stamp))
 }

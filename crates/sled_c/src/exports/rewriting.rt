@@ -5,12 +5,12 @@ ghost use Rattle.sled_c.specs.Handles.{Through, ThroughMemory};
 ghost use Rattle.sled_c.specs.Rewriting.{Compacts, Rewrites};
 
 use crate::exports::opening::Settings;
-use crate::file::{has_failed, told};
+use crate::file::has_failed;
 use crate::handle::Handle;
-use crate::opening::FileLog;
-use crate::status::{ALREADY_OPEN, CLOSED, NOT_OVER_FILE, OK, WRITE, status_of};
+use crate::status::{CLOSED, NOT_OVER_FILE, OK, WRITE, status_of};
 use crate::store::Store;
-use sled_pagecache::{Error, Log, MemLog, PageCache, Why};
+use crate::through::rewriting as through;
+use sled_pagecache::{Error, MemLog, PageCache, Why};
 use std::alloc::Global;
 
 /// Writes the pages of a cache to the new log of a file, which `dilluvas_raw_new_log` left behind the other handle, and makes them stable
@@ -18,36 +18,10 @@ use std::alloc::Global;
 /// call fails, or wants bytes of the cache's own file.
 #[unsafe(no_mangle)]
 pub extern "C" fn dilluvas_raw_rewrite(alloc: Global, handle: &mut Handle, into: &mut Handle) -> u32
-    ensures { Through ⟦<FileLog as Log>⟧ handle.old.store handle.new.store result
-        (into.new.store ≡ into.old.store) (λ _ g old new status. Rewrites g ⟦<FileLog as Log>⟧ old
-        new into.old.store into.new.store status) }
+    ensures { Through handle.old.store handle.new.store result (into.new.store ≡ into.old.store)
+        (λ _ g old new status. Rewrites g old new into.old.store into.new.store status) }
 {
-    through!(alloc, handle, cache => rewrite(alloc, cache, into))
-}
-
-// Writes the pages of a cache to the log behind a handle.
-fn rewrite<L: Log>(alloc: Global, cache: &mut PageCache<L>, into: &mut Handle) -> u32
-    ensures { Rewrites L.Log ⟦<FileLog as Log>⟧ cache.old cache.new into.old.store into.new.store
-        result }
-{
-    let Some(mut store) = into.take(alloc) else {
-        return CLOSED;
-    };
-    let status = match &mut *store {
-        Store::Begun(opening) => match opening.take_new_log() {
-            Some(log) => match cache.rewrite_into(log) {
-                Ok(log) => {
-                    opening.put_log(log);
-                    OK
-                }
-                Err((error, _)) => return status_of(&error),
-            },
-            None => CLOSED,
-        },
-        _ => ALREADY_OPEN,
-    };
-    into.put(alloc, store);
-    status
+    behind!(alloc, handle, store => through::rewrite(alloc, store, into))
 }
 
 /// Rewrites a cache in memory into a new log, and opens one over that in its place. Where that fails the cache goes on as it was.

@@ -4,13 +4,9 @@ ghost use Rattle.std.specs.Prelude.{◌≡◌};
 ghost use Rattle.sled_c.specs.Handles.{Through};
 ghost use Rattle.sled_c.specs.Steps.{FindsRoot, OpensTree, SwapsRoot};
 
-use crate::calls::roots as calls;
-use crate::file::{has_failed, told};
 use crate::handle::Handle;
-use crate::opening::FileLog;
-use crate::status::{CLOSED, WRITE};
-use crate::store::Store;
-use sled_pagecache::Log;
+use crate::status::CLOSED;
+use crate::through::roots as through;
 use std::alloc::Global;
 
 /// Writes the root page of a name.
@@ -21,10 +17,10 @@ pub extern "C" fn dilluvas_raw_root(
     name: &[u8],
     page: &mut u64,
 ) -> u32
-    ensures { Through ⟦<FileLog as Log>⟧ handle.old.store handle.new.store result (page.new ≡ page.old)
+    ensures { Through handle.old.store handle.new.store result (page.new ≡ page.old)
         (λ _ g old new status. FindsRoot g old new name.now status page.old page.new) }
 {
-    through!(alloc, handle, cache => calls::root(cache, name, page))
+    behind!(alloc, handle, store => through::root(store, name, page))
 }
 
 /// Gives a name another root, where page 0 stands for none.
@@ -36,10 +32,10 @@ pub extern "C" fn dilluvas_raw_cas_root(
     root: &mut u64,
     next: u64,
 ) -> u32
-    ensures { Through ⟦<FileLog as Log>⟧ handle.old.store handle.new.store result (root.new ≡ root.old)
+    ensures { Through handle.old.store handle.new.store result (root.new ≡ root.old)
         (λ _ g old new status. SwapsRoot g old new name.now next status root.old root.new) }
 {
-    through!(alloc, handle, cache => calls::cas_root(cache, name, root, next))
+    behind!(alloc, handle, store => through::cas_root(store, name, root, next))
 }
 
 /// Writes the root page of a name. A name that has none is given an index over an empty leaf.
@@ -50,8 +46,8 @@ pub extern "C" fn dilluvas_raw_open_tree(
     name: &[u8],
     page: &mut u64,
 ) -> u32
-    ensures { Through ⟦<FileLog as Log>⟧ handle.old.store handle.new.store result (page.new ≡ page.old)
+    ensures { Through handle.old.store handle.new.store result (page.new ≡ page.old)
         (λ _ g old new status. OpensTree g old new name.now status page.old page.new) }
 {
-    through!(alloc, handle, cache => calls::open_tree(alloc, cache, name, page))
+    behind!(alloc, handle, store => through::open_tree(alloc, store, name, page))
 }

@@ -1,23 +1,22 @@
 // What is asked of the disk of an opening, and told it, however far it has come.
 
 ghost use Rattle.std.specs.Prelude.{◌≡◌};
-ghost use Rattle.sled_disk.specs.HandedIn.{Forgets, TakesIn};
-ghost use Rattle.sled_disk.specs.Staged.{Fails, HandsOut};
-ghost use Rattle.sled_c.specs.Files.{OpeningIsBut, failed_at};
+ghost use Rattle.sled_disk.specs.Staged.{Fails, Forgets, HandsOut, TakesIn};
+ghost use Rattle.sled_c.specs.Files.{AreIn, OpeningIsBut, disk_at, has_failed};
 
 use super::{Opening, Step};
-use sled_disk::Task;
+use sled_disk::{CallersFile, Task};
 use std::alloc::AllocError;
 
-impl Opening {
+impl<F: CallersFile> Opening<F> {
     /// Whether a write or a sync of the file failed.
     pub fn has_failed(&self) -> bool
-        ensures { result ≡ failed_at self.now.step }
+        ensures { result ≡ has_failed (disk_at self.now.step) }
     {
         match &self.step {
             Some(Step::Unread(disk)) => disk.has_failed(),
-            Some(Step::Reading(_, disk)) => disk.has_failed(),
-            Some(Step::Unsynced(_, disk)) => disk.has_failed(),
+            Some(Step::Reading(part)) => part.disk.has_failed(),
+            Some(Step::Unsynced(part)) => part.disk.has_failed(),
             Some(Step::Read(read)) => read.log.disk().has_failed(),
             None => false,
         }
@@ -29,8 +28,8 @@ impl Opening {
     {
         match &mut self.step {
             Some(Step::Unread(disk)) => disk.next_task(into),
-            Some(Step::Reading(_, disk)) => disk.next_task(into),
-            Some(Step::Unsynced(_, disk)) => disk.next_task(into),
+            Some(Step::Reading(part)) => part.disk.next_task(into),
+            Some(Step::Unsynced(part)) => part.disk.next_task(into),
             Some(Step::Read(read)) => read.log.next_task(into),
             None => None,
         }
@@ -38,12 +37,13 @@ impl Opening {
 
     /// Hands in bytes of the file, from a place on, or lacks memory for them.
     pub fn hand_in(&mut self, at: u64, bytes: &[u8]) -> Result<(), AllocError>
+        requires word { F.tells → AreIn at bytes.now (disk_at self.old.step) }
         ensures { OpeningIsBut (TakesIn at bytes.now) self.old self.new }
     {
         match &mut self.step {
             Some(Step::Unread(disk)) => disk.hand_in(at, bytes),
-            Some(Step::Reading(_, disk)) => disk.hand_in(at, bytes),
-            Some(Step::Unsynced(_, disk)) => disk.hand_in(at, bytes),
+            Some(Step::Reading(part)) => part.disk.hand_in(at, bytes),
+            Some(Step::Unsynced(part)) => part.disk.hand_in(at, bytes),
             Some(Step::Read(read)) => read.log.hand_in(at, bytes),
             None => Ok(()),
         }
@@ -55,8 +55,8 @@ impl Opening {
     {
         match &mut self.step {
             Some(Step::Unread(disk)) => disk.forget(),
-            Some(Step::Reading(_, disk)) => disk.forget(),
-            Some(Step::Unsynced(_, disk)) => disk.forget(),
+            Some(Step::Reading(part)) => part.disk.forget(),
+            Some(Step::Unsynced(part)) => part.disk.forget(),
             Some(Step::Read(read)) => read.log.forget(),
             None => {}
         }
@@ -68,8 +68,8 @@ impl Opening {
     {
         match &mut self.step {
             Some(Step::Unread(disk)) => disk.fail(),
-            Some(Step::Reading(_, disk)) => disk.fail(),
-            Some(Step::Unsynced(_, disk)) => disk.fail(),
+            Some(Step::Reading(part)) => part.disk.fail(),
+            Some(Step::Unsynced(part)) => part.disk.fail(),
             Some(Step::Read(read)) => read.log.fail(),
             None => {}
         }

@@ -29,9 +29,8 @@ use Rattle.std.proofs.raw_atomic.Walks.{proved_at, leaves}
 use Rattle.std.specs.contracts.alloc.Global as memory
 use Rattle.std.proofs.alloc.Global.TheLaws as heap_laws
 use Rattle.std.specs.contracts.impls.GlobalAllocator.TheImpl.{ghosts}
-use Rattle.sled_c.specs.contracts.store.Store.{the_row as R}
 use Rattle.sled_c.proofs.Loosened.{both, Loose, loose_fits, loose_in}
-use Rattle.sled_c.proofs.Handled.{word, word_good, handle_out, handle_either}
+use Rattle.sled_c.proofs.Handled.{R, word, word_good, handle_out, handle_either}
 use Rattle.sled_c.specs.contracts.handle.Handle.{the_row as S}
 use Rattle.sled_c.specs.contracts.handle.Handle.into_loose.{ended, clauses}
 use Rattle.sled_c.specs.contracts.handle.Handle.into_loose.Key.{name as #self}
