@@ -15,6 +15,8 @@ mod DiskMoments
 mod Waiting
 mod Written
 mod Adding
+mod NoPages
+mod OfItsBytes
 mod Calling
 mod Sealing
 mod ByPlace

@@ -1,10 +1,15 @@
 //! Laws of the disk file.
 
-ghost use Rattle.std.specs.Prelude.{◌≡◌, ℕ, ◌+◌, List, ◌++◌, length, take};
+ghost use Rattle.std.specs.Prelude.{◌≡◌, ℕ, ◌+◌, List, [], ◌++◌, true, length, take};
 ghost use Rattle.sled_log.specs.Events.{Event};
 ghost use Rattle.sled_log.specs.Messages.{Entry};
 ghost use Rattle.sled_disk.specs.Durable.{MayFollow, IsWritten};
 ghost use Rattle.sled_disk.specs.Format.{Describes, DescribesTo, Frame, body, events_at, entry_at};
+ghost use Rattle.sled_disk.specs.Ready.{IsLogOf};
+
+use crate::disk::Disk;
+use crate::log::DiskLog;
+use sled_log::Log;
 
 /// A file describes one list of events.
 pub fn a_file_has_one_meaning()
@@ -29,4 +34,10 @@ pub fn a_frame_adds_its_events()
         → IsWritten gate bytes frame after
         → DescribesTo (gate + (9 + length (body frame.records))) after
         (events ++ events_at entry_at (gate + 9) frame.records) }
+{}
+
+/// A log of which nothing is pending is the log of the bytes that its disk shows: all that they describe, durable.
+pub fn a_log_is_of_its_bytes<D: Disk>(_log: &DiskLog<D>)
+    ensures { D.tells → _log.now.usable ≡ true → (⟦<DiskLog<D> as Log>⟧.state _log.now).pending ≡ []
+        → IsLogOf (D.seen _log.now.disk) (⟦<DiskLog<D> as Log>⟧.state _log.now) }
 {}

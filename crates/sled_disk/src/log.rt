@@ -220,6 +220,15 @@ impl<D: Disk> DiskLog<D> {
         &self.disk
     }
 
+    /// Whether it holds no page, durable or pending.
+    pub fn is_empty(&self) -> bool
+        ensures pages { result ≡ true ↔ self.now.pages.items ≡ [] }
+        ensures told { D.tells → self.now.usable ≡ true → (result ≡ true
+            ↔ now effect_of_entry (⟦<Self as Log>⟧.state self.now) ≡ []) }
+    {
+        self.pages.as_slice().is_empty()
+    }
+
     /// Ends the log, and makes nothing durable.
     pub fn into_disk(self) -> D
         ensures { result ≡ self.disk }

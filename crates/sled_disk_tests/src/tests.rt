@@ -2,6 +2,7 @@ ghost use Rattle.std.specs.Prelude.{◌≡◌};
 ghost use Rattle.sled_log.specs.Calls.{one_more};
 
 mod disks;
+mod empty;
 mod files;
 mod forgetful;
 mod marks;

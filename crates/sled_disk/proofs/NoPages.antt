@@ -1,0 +1,34 @@
+-- A log whose pages are none holds none, and the other way round.
+use Rattle.std.proofs.Common.{◌≡◌, ◌==◌, ◌∙◌, ℕ, Bool, true, List, [], ◌∷◌, length, map, refl, sym, ap, arith}
+use Rattle.std.specs.Global.{Vec}
+use Rattle.std.proofs.lemmas.Bool.{eqb-true}
+use Rattle.sled_log.specs.LogState.{now}
+use Rattle.sled_log.specs.Messages.{effect_of_entry}
+use Rattle.sled_disk.specs.Format.{IsBytes}
+use Rattle.sled_disk.specs.Pending.{count, state_in}
+use Rattle.sled_disk.specs.Reading.{chains_of, entry_in}
+use Rattle.sled_disk.specs.Standing.{Stands, records_behind}
+use Rattle.sled_disk.specs.declared.head.Head.{Head}
+use Rattle.sled_disk.specs.declared.mark.Mark.{Mark}
+use Rattle.sled_disk.proofs.Adding.{bytes, heads-now}
+
+pub none-of : {A : Type 0} (xs : List A) → (length xs == 0) ≡ true → xs ≡ []
+none-of [] is = refl
+none-of (x ∷ xs) is = absurd (omega (arith, eqb-true (length (x ∷ xs)) 0 is))
+
+pub of-none : {A : Type 0} (xs : List A) → xs ≡ [] → (length xs == 0) ≡ true
+of-none xs none = ap (λ l. length l == 0) none
+
+none-mapped : {A B : Type 0} (f : A → B) (xs : List A) → map f xs ≡ [] → xs ≡ []
+none-mapped f [] is = refl
+none-mapped f (x ∷ xs) is = absurd cc
+
+module _ (seen : List ℕ) (gate : ℕ) (buffer : List ℕ) (pages : List (Vec Head)) (fits : IsBytes seen) (s : Stands seen gate (records_behind buffer) (chains_of pages)) (ms : List Mark) (usable : Bool) (counted : count ms ≡ length (records_behind buffer)) where
+  heads : map (map (entry_in (bytes seen gate buffer (chains_of pages) fits s))) (chains_of pages) ≡ now effect_of_entry (state_in seen gate ms buffer usable)
+  heads = heads-now seen gate buffer (chains_of pages) fits s ms usable counted
+
+  pub none-held : pages ≡ [] → now effect_of_entry (state_in seen gate ms buffer usable) ≡ []
+  none-held none = sym heads ∙ ap (λ (l : List (Vec Head)). map (map (entry_in (bytes seen gate buffer (chains_of pages) fits s))) (chains_of l)) none
+
+  pub held-none : now effect_of_entry (state_in seen gate ms buffer usable) ≡ [] → pages ≡ []
+  held-none none = none-mapped (λ (v : Vec Head). v.items) pages (none-mapped (map (entry_in (bytes seen gate buffer (chains_of pages) fits s))) (chains_of pages) (heads ∙ none))

@@ -1,0 +1,10 @@
+use Rattle.sled_disk.specs.Reading.{chains_of}
+use Rattle.sled_disk.specs.Standing.{records_behind}
+use Rattle.sled_disk.proofs.OfItsBytes.{of-its-bytes}
+use Rattle.sled_disk.proofs.laws.a_log_is_of_its_bytes.Goals as goal
+
+pub returns : goal.returns
+returns g c = λ told ok none.
+    let log = c.args._log.now in
+    let next = log.next in
+    of-its-bytes (g.D.Disk.seen log.disk) next.gate (records_behind next.buffer.items) (chains_of log.pages.items) (λ i. g.met.D.Disk.are_bytes log.disk i told) (log.stands told ok) next.marks.items next.buffer.items log.usable ok none
