@@ -12,6 +12,7 @@ use Rattle.sled_pagecache.specs.Inside.Eviction.{IsSettled}
 use Rattle.sled_pagecache.specs.Inside.Invariant.{StaysCounted}
 use Rattle.sled_pagecache.specs.Inside.PageEntry.{IsKept}
 use Rattle.sled_pagecache.specs.Logged.{Logged, IsLogged}
+use Rattle.sled_pagecache.specs.Served.{IsServed, StaysAsItIs}
 use Rattle.sled_pagecache.specs.State.{State}
 use Rattle.sled_pagecache.specs.declared.pagecache.handles.config.Config.{Config}
 use Rattle.sled_pagecache.specs.declared.pagecache.memory.accesses.Accesses.{Accesses}
@@ -71,3 +72,6 @@ module _ {L : Type 0} (g : Ghosts L) where
       opened = (is.known ok).opened;
     };
   }
+
+  pub stays-as-it-is : (old new : Cache L) → IsServed g old new → StaysAsItIs g old new
+  stays-as-it-is old new served held s is = subst (λ (cache : Cache L). Represents g cache held s) (sym served.same) (represents-over old new.log held s served.stays is)

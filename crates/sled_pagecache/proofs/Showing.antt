@@ -1,7 +1,11 @@
 -- Why every run of openings shows pages after a prefix of the changes, which holds all that was flushed, and gives no generated id twice:
 -- what opens over a log, however a cache over it ended, begins above every id that was answered.
-use Rattle.sled_pagecache.proofs.Names.{Counter, Roots, drop_all, seen_event, map, message_in, Answer, Cache, Call, Config, Content, Err, Error, Generated, Ghosts, Represents, IsLogged, IsStep, List, Logged, Messages, Ok, Result, Started, State, Outcome, [], ◌∷◌, ◌++◌, ap, append-nil, append_assoc, arith, changes_of_start, false, inl, inr, IfErr, IsErrAnd, stable_contents, opened_state, refl, subst, sym, true, unplaced_state, ℕ, ◌≡◌, ◌≢◌, ◌≤◌, ◌+◌, ◌⊎◌, ⊎_elim, ◌∙◌, true≢false, Update, Event, StepOver, Adds, IsPrefix, IsPrefix-all, IsPrefix-none, Crashed, CrashedIn, CrashedRewriting, Ending, HandedOn, Rewritten, IsEmpty, IsRun, Lasted, Leaves, LeavesUnopened, Opening, HoldsCrash, KeepIntervals, OnlyNow, left-now, AreMade, AreSteps, CoversId, IsCovered, IsMade, ReportsBytes, Opens, MayBeOpened, Unsupported, Write, has_own, cases_Bool, cases_lt, contents_after, contents_of, id_in, ids_in, ids_of, length, length-drop, AddsEvents-then, CrashKeeps-added, CrashKeeps-more, IsFair-none, contents_after-append, log_after, step-stuck}
-use Rattle.sled_pagecache.specs.Openings.{Refused}
+use Rattle.sled_pagecache.proofs.Names.{Counter, Roots, drop_all, seen_event, map, message_in, Answer, Cache, Call, Config, Content, Err, Error, Generated, Ghosts, Represents, IsLogged, IsStep, List, Logged, Messages, Ok, Result, Started, State, Outcome, [], ◌∷◌, ◌++◌, ap, append-nil, append_assoc, arith, changes_of_start, false, inl, inr, IfErr, IsErrAnd, stable_contents, opened_state, refl, subst, sym, true, unplaced_state, ℕ, ◌≡◌, ◌≢◌, ◌≤◌, ◌+◌, ◌⊎◌, ⊎_elim, ◌∙◌, true≢false, Update, Event, StepOver, Adds, IsPrefix, IsPrefix-all, IsPrefix-none, Crashed, CrashedIn, CrashedRewriting, Ending, HandedOn, Rewritten, IsEmpty, IsRun, Lasted, Leaves, LeavesUnopened, Opening, HoldsCrash, KeepIntervals, OnlyNow, left-now, CoversId, IsCovered, IsMade, ReportsBytes, Opens, MayBeOpened, Unsupported, Write, has_own, cases_Bool, cases_lt, contents_after, contents_of, id_in, ids_in, ids_of, length, length-drop, AddsEvents-then, CrashKeeps-added, CrashKeeps-more, IsFair-none, contents_after-append, log_after, step-stuck}
+use Rattle.sled_log.specs.LogState.{LogState}
+use Rattle.sled_log.specs.Messages.{Entry}
+use Rattle.sled_disk.specs.Served.{StaysALog}
+use Rattle.sled_pagecache.specs.Openings.{AreMadeServed, Refused}
+use Rattle.sled_pagecache.specs.Served.{IsServed}
 use Rattle.sled_pagecache.proofs.Carrying.{proper-now}
 use Rattle.sled_pagecache.proofs.Counting.{BeginsAbove, CountsTo, IsSafe, Rises, first-at, now-added, rises-over, rises-parts, safe-added, safe-crash, start-counts, start-rises}
 use Rattle.sled_pagecache.proofs.Endings.{by-settings, crash-since, sound-settings}
@@ -10,8 +14,9 @@ use Rattle.sled_pagecache.proofs.Staying.{no-changes}
 use Rattle.sled_base.specs.declared.types.Error.TheVariants.{Io}
 use Rattle.sled_pagecache.proofs.Crashing.{refuses}
 use Rattle.sled_pagecache.proofs.IdSteps.{Passes, call-passes, none-given, wrote-none}
+use Rattle.sled_pagecache.proofs.Served.{represents-over}
 use Rattle.sled_pagecache.proofs.Reopening.{IsKeptAs, crash-holds, empty-logged, kept-prefix}
-use Rattle.sled_pagecache.specs.Prefixes.{History, Crashes, history_after_answer, with_begun, begun_by_start, history_after_call, history_after_calls, with_made, pages_by_now, history_after_start, history_after_start_with, history_from, Survives, with_all_flushed, Ends, EndsUnopened, HasPagesOf, IsOpenedOf, RefusesAfter, ShowPrefixes}
+use Rattle.sled_pagecache.specs.Prefixes.{AreStepsServed, History, Crashes, history_after_answer, with_begun, begun_by_start, history_after_call, history_after_calls, with_made, pages_by_now, history_after_start, history_after_start_with, history_from, Survives, with_all_flushed, Ends, EndsUnopened, HasPagesOf, IsOpenedOf, RefusesAfter, ShowPrefixes}
 use Rattle.sled_pagecache.specs.Logged.{IsLeft, now, AreKept}
 use Rattle.sled_pagecache.specs.Inside.SequenceLaws.{adds-none}
 
@@ -219,21 +224,39 @@ module _ {L : Type 0} (g : Ghosts L) (tells : g.tells)
   record Went (h : History) (interval bound : ℕ) (first : Cache L) (s : State) (calls : List (Call × Answer)) (last : Cache L) : Type 0 where
     pub outs : List Outcome
     pub t : State
-    pub steps : AreSteps g (IsMade g) first s calls outs last t
+    pub steps : AreStepsServed g first s calls outs last t
     pub bound_then : ℕ
     pub stands : Stands (history_after_calls calls outs h) interval bound_then last t
     pub rise : (more : List ℕ) → RiseFrom bound_then more → RiseFrom bound (ids_in calls ++ more)
 
-  calls-go : (h : History) (interval bound : ℕ) (first last : Cache L) (s : State) (calls : List (Call × Answer)) → Stands h interval bound first s → AreMade g first calls last → Went h interval bound first s calls last
-  calls-go h interval bound first last s [] stands same =
-      record { outs = []; t = s; steps = (same, refl); bound_then = bound; stands = subst (λ (cache : Cache L). Stands h interval bound cache s) (sym same) stands; rise = λ more below. below }
-  calls-go h interval bound first last s (call ∷ calls) stands (mid, here, others) =
-      let one = call-goes h interval bound first mid s call.0 call.1 stands here in
+  -- a cache that was served stands as it stood
+  serve : (h : History) (interval bound : ℕ) (old : Cache L) (log : L) (s : State) → StaysALog g old.log log → Stands h interval bound old s → Stands h interval bound (record old { log = log }) s
+  serve h interval bound old log s stays stands = record {
+    held = stands.held;
+    is = represents-over g old log stands.held s stays stands.is;
+    so = ⊎_elim
+        (λ on. inl (record { clear = on.clear; told = on.told; interval_is = on.interval_is; next = on.next; counts = on.counts }))
+        (λ stuck. inr (record {
+          kept = stuck.kept;
+          since = stuck.since;
+          earlier = let le = stuck.earlier in let later = stays.later tells in omega (arith, le, later);
+          left = λ pages since. stuck.left pages (stays.nothing_else tells stuck.since pages stuck.earlier since);
+        })) stands.so;
+  }
+
+  served-stands : (h : History) (interval bound : ℕ) (old new : Cache L) (s : State) → IsServed g old new → Stands h interval bound old s → Stands h interval bound new s
+  served-stands h interval bound old new s served stands = subst (λ (cache : Cache L). Stands h interval bound cache s) (sym served.same) (serve h interval bound old new.log s served.stays stands)
+
+  calls-go : (h : History) (interval bound : ℕ) (first last : Cache L) (s : State) (calls : List (Call × Answer)) → Stands h interval bound first s → AreMadeServed g first calls last → Went h interval bound first s calls last
+  calls-go h interval bound first last s [] stands served =
+      record { outs = []; t = s; steps = (served, refl); bound_then = bound; stands = served-stands h interval bound first last s served stands; rise = λ more below. below }
+  calls-go h interval bound first last s (call ∷ calls) stands (begun, mid, served, here, others) =
+      let one = call-goes h interval bound begun mid s call.0 call.1 (served-stands h interval bound first begun s served stands) here in
       let rest = calls-go (history_after_call call.1 one.out h) interval one.bound_then mid last one.out.state calls one.stands others in
       record {
         outs = one.out ∷ rest.outs;
         t = rest.t;
-        steps = (mid, here, one.step, (one.stands.held, one.stands.is), rest.steps);
+        steps = (begun, mid, served, here, one.step, (one.stands.held, one.stands.is), rest.steps);
         bound_then = rest.bound_then;
         stands = rest.stands;
         rise = λ more below. rw append_assoc (one.rise (ids_in calls ++ more) (rest.rise more below));
@@ -373,19 +396,25 @@ module _ {L : Type 0} (g : Ghosts L) (tells : g.tells)
           let told : Tells h k bound_then found.held = record { added = found.told.added; flushed = found.told.flushed; clear = found.told.clear; safe = record { rises = found.told.safe.rises; above = above } } in
           record { held = found.held; logged = found.logged; told = told }
 
+  -- a log that was served is found as it was
+  served-found : (h : History) (least bound : ℕ) (old new : L) → IsFound h least bound old → StaysALog g old new → IsFound h least bound new
+  served-found h least bound old new found stays =
+      record { held = found.held; logged = subst (λ (state : LogState Entry). IsLogged (unplaced_state state) found.held) (sym (stays.state tells)) found.logged; told = found.told }
+
   abbrev Shows : History → ℕ → ℕ → List (Opening L) → Type 0
   Shows h least bound openings = ShowPrefixes g h openings × (KeepIntervals least openings → RiseFrom bound (ids_of openings))
 
   run-shows : (h : History) (least bound : ℕ) (l : L) (openings : List (Opening L)) → IsFound h least bound l → IsRun g l openings → Shows h least bound openings
   run-shows h least bound l [] found run = (tt, λ keeps. tt)
-  run-shows h least bound l (Refused config result left ∷ openings) found (start, leaves, run) =
-      let (after, ends, is) = unopened h l config least bound found result left start.0 start.1 leaves in
+  run-shows h least bound l (Refused config result left ∷ openings) found (log, stays, start, leaves, run) =
+      let begun = served-found h least bound l log found stays in
+      let (after, ends, is) = unopened h log config least bound begun result left start.0 start.1 leaves in
       let (shows, rise) = run-shows after least bound left openings is run in
-      ((why-refused h l config least bound found result start.1, after, ends, shows), rise)
-  run-shows h least bound l (Lasted config first calls last ending left ∷ openings) found (start, made, leaves, run) =
+      ((why-refused h log config least bound begun result start.1, after, ends, shows), rise)
+  run-shows h least bound l (Lasted config first calls last ending left ∷ openings) found (log, stays, start, made, leaves, run) =
       let k = config.idgen_persist_interval in
-      let (bound_then, found_then, same) = widened h least k bound l found in
-      let (opens, stands) = begins-so h l config bound_then found_then first start.1 in
+      let (bound_then, found_then, same) = widened h least k bound log (served-found h least bound l log found stays) in
+      let (opens, stands) = begins-so h log config bound_then found_then first start.1 in
       let all = calls-go (history_after_start h) k bound_then first last (opened_state config (pages_by_now h)) calls stands made in
       let then = history_after_calls calls all.outs (history_after_start h) in
       let has-pages : HasPagesOf then all.t = λ free.

@@ -23,6 +23,7 @@ pub mod SystemPages
 pub mod Shapes
 pub mod Trees
 pub mod SequenceLaws
+pub mod ServedLaws
 pub mod MadeLaws
 pub mod Moves
 pub mod Appends

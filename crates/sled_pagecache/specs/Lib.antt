@@ -19,11 +19,11 @@ pub mod Opening
 pub mod Reopening
 pub mod Rewriting
 pub mod Batches
+pub mod Served
 pub mod Openings
 pub mod Prefixes
 pub mod Trees
 pub mod Shapes
 pub mod Table
 pub mod Snapshots
-pub mod Served
 pub mod Inside

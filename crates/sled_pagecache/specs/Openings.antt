@@ -6,10 +6,12 @@ use Rattle.sled_base.specs.declared.types.Error.{Error}
 use Rattle.sled_base.specs.declared.types.Error.TheVariants.{Io}
 use Rattle.sled_log.specs.LogState.{unplaced_state}
 use Rattle.sled_log.specs.declared.log.Log.{Ghosts}
+use Rattle.sled_disk.specs.Served.{StaysALog}
 use Rattle.sled_pagecache.specs.Cache.{Cache}
 use Rattle.sled_pagecache.specs.Reopening.{HoldsCrash, Started}
 use Rattle.sled_pagecache.specs.Rewriting.{IsRewritten, StaysInState}
-use Rattle.sled_pagecache.specs.Rows.{IsMade, AreMade}
+use Rattle.sled_pagecache.specs.Rows.{IsMade}
+use Rattle.sled_pagecache.specs.Served.{IsServed}
 use Rattle.sled_pagecache.specs.Opening.{MayBeOpened, log_after, stable_state}
 use Rattle.sled_pagecache.specs.declared.pagecache.handles.call.Answer.{Answer}
 use Rattle.sled_pagecache.specs.declared.pagecache.handles.call.Answer.TheVariants.{Generated}
@@ -45,6 +47,11 @@ module _ {L : Type 0} (g : Ghosts L) where
       HoldsCrash g (log_after result) (g.moment found) left
       ⊎ IsErrAnd result (λ e. (e.0 ≢ Io Write) × (left ≡ e.1))
 
+  -- The calls were made one after another, each of the cache that the one before it left, which may have been served since.
+  abbrev pub AreMadeServed : Cache L → List (Call × Answer) → Cache L → Type 0
+  AreMadeServed old [] new = IsServed g old new
+  AreMadeServed old (made ∷ calls) new = (served mid : Cache L) × IsServed g old served × IsMade g served made.0 made.1 mid × AreMadeServed mid calls new
+
   -- What an opening leaves whose cache was that behind the calls that it answered. A crash inside a call, or while it was rewritten, is one
   -- at any moment since the call's start.
   abbrev pub Leaves : Cache L → Ending → L → Type 0
@@ -54,11 +61,11 @@ module _ {L : Type 0} (g : Ghosts L) where
   Leaves last HandedOn left = (last.fault ≡ false) × (left ≡ last.log)
   Leaves last Rewritten left = (last.fault ≡ false) × IsRewritten g g last left
 
-  -- A log was opened so often, each time as the time before left it.
+  -- A log was opened so often, each time as the time before left it, or as it was served since.
   abbrev pub IsRun : L → List (Opening L) → Type 0
   IsRun found [] = ⊤
-  IsRun found (Refused config result left ∷ openings) = Starts found config result × LeavesUnopened found result left × IsRun left openings
-  IsRun found (Lasted config first calls last ending left ∷ openings) = Starts found config (Ok first) × AreMade g first calls last × Leaves last ending left × IsRun left openings
+  IsRun found (Refused config result left ∷ openings) = (log : L) × StaysALog g found log × Starts log config result × LeavesUnopened log result left × IsRun left openings
+  IsRun found (Lasted config first calls last ending left ∷ openings) = (log : L) × StaysALog g found log × Starts log config (Ok first) × AreMadeServed first calls last × Leaves last ending left × IsRun left openings
 
 -- no cache was opened with a shorter interval of ids than one before it, and none with a shorter one than this
 abbrev pub KeepIntervals : {L : Type 0} → ℕ → List (Opening L) → Type 0

@@ -17,7 +17,8 @@ use Rattle.sled_log.specs.declared.log.Log.{Ghosts}
 use Rattle.sled_pagecache.specs.Cache.{Cache}
 use Rattle.sled_pagecache.specs.Calls.{StepOver}
 use Rattle.sled_pagecache.specs.Openings.{Ending, Crashed, CrashedIn, CrashedRewriting, HandedOn, Rewritten, Opening, Refused, Lasted}
-use Rattle.sled_pagecache.specs.Rows.{AreSteps, IsInState, IsMade}
+use Rattle.sled_pagecache.specs.Rows.{IsInState, IsMade}
+use Rattle.sled_pagecache.specs.Served.{IsServed}
 use Rattle.sled_pagecache.specs.State.{State, contents_of}
 use Rattle.sled_pagecache.specs.declared.pagecache.handles.config.Config.{Config}
 
@@ -106,6 +107,14 @@ module _ {L : Type 0} (g : Ghosts L) where
     pub config_is : cache.config ≡ config
     pub recovered : cache.recovered ≡ has_own (pages_by_now h)
 
+  -- The calls were made one after another, each of the cache that the one before it left, which may have been served since. Each is a step over
+  -- that cache, from the state that it is in, with the outcome that stands at its place, and leaves a cache in the state of that.
+  abbrev pub AreStepsServed : Cache L → State → List (Call × Answer) → List Outcome → Cache L → State → Type 0
+  AreStepsServed old s [] [] new t = IsServed g old new × (t ≡ s)
+  AreStepsServed old s (made ∷ calls) (out ∷ outs) new t =
+      (served mid : Cache L) × IsServed g old served × IsMade g served made.0 made.1 mid × StepOver g served s made.0 made.1 out × IsInState g mid out.state × AreStepsServed mid out.state calls outs new t
+  AreStepsServed old s calls outs new t = ⊥
+
   -- How an opening ends: a crash inside a call may leave what the call began, but a rewriting begins nothing; and a log is handed on only
   -- where no write failed. One that the cache was rewritten into holds the pages by now, all of them flushed.
   abbrev pub Ends : Cache L → State → History → Ending → History → Type 0
@@ -122,6 +131,6 @@ module _ {L : Type 0} (g : Ghosts L) where
       IfErr result (λ e. RefusesAfter h config e.0) × (after : History) × EndsUnopened h after × ShowPrefixes after openings
   ShowPrefixes h (Lasted config first calls last ending left ∷ openings) =
       IsOpenedOf h config first
-      × (outs : List Outcome) × (t : State) × AreSteps g (IsMade g) first (opened_state config (pages_by_now h)) calls outs last t
+      × (outs : List Outcome) × (t : State) × AreStepsServed first (opened_state config (pages_by_now h)) calls outs last t
       × HasPagesOf (history_after_calls calls outs (history_after_start h)) t
       × (after : History) × Ends last t (history_after_calls calls outs (history_after_start h)) ending after × ShowPrefixes after openings

@@ -13,6 +13,7 @@ ghost use Rattle.sled_pagecache.specs.Opening.{changes_of_start};
 ghost use Rattle.sled_pagecache.specs.Reopening.{AreAfterPrefix, CrashReopens};
 ghost use Rattle.sled_pagecache.specs.Rows.{AreSteps, StepInRow, changes_of};
 ghost use Rattle.sled_pagecache.specs.Opening.{Opens, log_after, stable_state, stable_contents};
+ghost use Rattle.sled_pagecache.specs.Served.{IsServed, StaysAsItIs};
 ghost use Rattle.sled_pagecache.specs.State.{State};
 ghost use Rattle.sled_pagecache.specs.Step.{Outcome};
 ghost use Rattle.sled_pagecache.specs.declared.pagecache.handles.call.Answer.{Answer};
@@ -48,6 +49,11 @@ pub fn what_a_crash_leaves_is_logged()
         (left : IsLeft held changes pages) (usable : Bool)
         → IsLogged (stable_state pages usable) (stable_contents
         (contents_after held.stable (take left.cut (held.pending ++ left.came)))) }
+{}
+
+/// A cache whose caller served its log between two calls stays in the state that it is in, whichever that is.
+pub fn a_served_cache_stays_as_it_is<L: Log>()
+    ensures { (old new : Cache L) → IsServed L.Log old new → StaysAsItIs L.Log old new }
 {}
 
 /// A crash at any moment, inside a call too, reopens to the pages after a prefix of the changes begun, which holds all that was

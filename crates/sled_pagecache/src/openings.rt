@@ -3,12 +3,13 @@
 ghost use Rattle.std.specs.Prelude.{List, []};
 ghost use Rattle.sled_disk.specs.declared.disk.file.FileDisk.{FileDisk};
 ghost use Rattle.sled_disk.specs.declared.disk.memory.MemDisk.{MemDisk};
+ghost use Rattle.sled_disk.specs.declared.disk.staged.StagedDisk.{StagedDisk};
 ghost use Rattle.sled_disk.specs.declared.log.DiskLog.{DiskLog};
 ghost use Rattle.sled_pagecache.specs.Prefixes.{history_from};
 ghost use Rattle.sled_pagecache.specs.Openings.{Opening, IsEmpty, IsRun, KeepIntervals, ids_of, AreRising};
 ghost use Rattle.sled_pagecache.specs.Prefixes.{ShowPrefixes};
 
-use sled_disk::{Disk, DiskLog, FileDisk, MemDisk, SystemFile};
+use sled_disk::{CallersFile, Disk, DiskLog, FileDisk, MemDisk, StagedDisk, SystemFile};
 use sled_log::Log;
 
 /// From an empty log, over every list of openings, calls, crashes at any moment, and logs handed on or rewritten: each opening's cache is
@@ -19,7 +20,8 @@ use sled_log::Log;
 /// that came, and so does an id that wrote a counter. A cache is opened over what the
 /// time before left: what a crash left, inside a call, inside `start` or inside `rewrite_into` too, and after a write fault; the log that
 /// `into_log` handed on, where no write failed; another log, that `rewrite_into` answered, which holds the pages by then, all of them flushed;
-/// or the log that a refused `start` gave back. Nothing but an allocation, the device, the settings, or a log that
+/// or the log that a refused `start` gave back. Between two calls, and before a log is opened, whoever reads and writes for the log may do so: it
+/// stays in its state then (`IsServed`). Nothing but an allocation, the device, the settings, or a log that
 /// has no room for a missing system page refuses an opening. That is all that is asked, of any log that tells its bytes.
 pub fn every_opening_shows_a_prefix<L: Log>()
     ensures { L.tells → (log : L) (openings : List (Opening L)) → IsEmpty L.Log log
@@ -49,6 +51,19 @@ pub fn every_opening_of_a_file_shows_a_prefix<F: SystemFile>()
     every_opening_shows_a_prefix::<DiskLog<FileDisk<F>>>();
 }
 
+/// The same over a log whose caller reads and writes its file (`StagedDisk`), if he keeps his word of the file: what that is, `CallersFile` says.
+/// What waits may be worked off between any two calls, or later, or never.
+pub fn every_opening_of_a_callers_file_shows_a_prefix<F: CallersFile>()
+    ensures { F.tells
+        → (log : DiskLog (StagedDisk F F.CallersFile) ⟦<StagedDisk<F> as Disk>⟧)
+        (openings : List (Opening (DiskLog (StagedDisk F F.CallersFile) ⟦<StagedDisk<F> as Disk>⟧)))
+        → IsEmpty ⟦<DiskLog<StagedDisk<F>> as Log>⟧ log
+        → IsRun ⟦<DiskLog<StagedDisk<F>> as Log>⟧ log openings
+        → ShowPrefixes ⟦<DiskLog<StagedDisk<F>> as Log>⟧ (history_from []) openings }
+{
+    every_opening_shows_a_prefix::<DiskLog<StagedDisk<F>>>();
+}
+
 /// From an empty log, over every list of openings as above in which no config has a shorter interval of ids than one before it: each
 /// generated id is above every id that was answered before it. So none comes twice, whatever crashes and rewritten logs come between.
 pub fn ids_are_given_once<L: Log>()
@@ -66,4 +81,16 @@ pub fn ids_over_a_file_are_given_once<F: SystemFile>()
         → KeepIntervals 0 openings → AreRising (ids_of openings) }
 {
     ids_are_given_once::<DiskLog<FileDisk<F>>>();
+}
+
+/// The same over a log whose caller reads and writes its file, if he keeps his word.
+pub fn ids_over_a_callers_file_are_given_once<F: CallersFile>()
+    ensures { F.tells
+        → (log : DiskLog (StagedDisk F F.CallersFile) ⟦<StagedDisk<F> as Disk>⟧)
+        (openings : List (Opening (DiskLog (StagedDisk F F.CallersFile) ⟦<StagedDisk<F> as Disk>⟧)))
+        → IsEmpty ⟦<DiskLog<StagedDisk<F>> as Log>⟧ log
+        → IsRun ⟦<DiskLog<StagedDisk<F>> as Log>⟧ log openings
+        → KeepIntervals 0 openings → AreRising (ids_of openings) }
+{
+    ids_are_given_once::<DiskLog<StagedDisk<F>>>();
 }

@@ -7,12 +7,11 @@ use Rattle.sled_log.specs.LogState.{IsPrefix}
 use Rattle.sled_log.specs.declared.log.Log.{Ghosts}
 use Rattle.sled_node.specs.Node.{WholeNode}
 use Rattle.sled_pagecache.specs.Cache.{Cache}
-use Rattle.sled_pagecache.specs.Prefixes.{History, Survives, with_all_flushed, history_after_calls, history_after_changes, with_made, pages_by_now, history_after_start, history_from}
+use Rattle.sled_pagecache.specs.Prefixes.{AreStepsServed, History, Survives, with_all_flushed, history_after_calls, history_after_changes, with_made, pages_by_now, history_after_start, history_from}
 use Rattle.sled_pagecache.specs.Limits.{most_pages}
 use Rattle.sled_pagecache.specs.Opening.{opened_state}
 use Rattle.sled_pagecache.specs.Openings.{Crashed, Lasted, Opening}
 use Rattle.sled_pagecache.specs.Prefixes.{ShowPrefixes}
-use Rattle.sled_pagecache.specs.Rows.{AreSteps, IsMade}
 use Rattle.sled_pagecache.specs.State.{State, greatest_free}
 use Rattle.sled_pagecache.specs.Step.{Outcome}
 use Rattle.sled_pagecache.specs.State.{Token}
@@ -54,11 +53,11 @@ module _ {L : Type 0} (g : Ghosts L) where
 
   is-added : (first last : Cache L) (s t : State) (h : History) (node : WholeNode) (page : ℕ × Token) (written : ℕ) (outs : List Outcome)
       → s.fault ≡ false → s.batch ≡ false → greatest_free 0 s.pages ≡ None → (length s.pages == most_pages) ≡ false
-      → AreSteps g (IsMade g) first s (calls_of node page written) outs last t → IsAdded s h node page written outs
+      → AreStepsServed g first s (calls_of node page written) outs last t → IsAdded s h node page written outs
   is-added first last s t h node page written [] clear closed none few steps = absurd steps
-  is-added first last s t h node page written (one ∷ []) clear closed none few (mid, made_one, step_one, in_one, steps) = absurd steps
-  is-added first last s t h node page written (one ∷ two ∷ three ∷ outs) clear closed none few (mid, made_one, step_one, in_one, (end, made_two, step_two, in_two, steps)) = absurd steps
-  is-added first last s t h node page written (one ∷ two ∷ []) clear closed none few (mid, made_one, step_one, in_one, (end, made_two, step_two, in_two, same)) =
+  is-added first last s t h node page written (one ∷ []) clear closed none few (begun, mid, served_one, made_one, step_one, in_one, steps) = absurd steps
+  is-added first last s t h node page written (one ∷ two ∷ three ∷ outs) clear closed none few (begun, mid, served_one, made_one, step_one, in_one, (then, end, served_two, made_two, step_two, in_two, steps)) = absurd steps
+  is-added first last s t h node page written (one ∷ two ∷ []) clear closed none few (begun, mid, served_one, made_one, step_one, in_one, (then, end, served_two, made_two, step_two, in_two, served)) =
       let done = rw few at (rw none at (rw clear at step_one)) in
       let state = done.1.2 in
       let free : one.state.fault ≡ false = ap (λ (u : State). u.fault) state in
@@ -85,5 +84,5 @@ module _ {L : Type 0} (g : Ghosts L) where
       let by_now : pages_by_now after ≡ Roots [] ∷ Counter 0 ∷ Node node ∷ [] = ap pages_by_now is ∙ survivors node pages (subst (λ (h : History). Survives h pages) one.came survive) in
       let two =
       is-added second second_then (opened_state config (Roots [] ∷ Counter 0 ∷ Node node ∷ [])) u (history_after_start after) other next written_then more refl refl refl refl
-      (subst (λ (contents : List Content). AreSteps g (IsMade g) second (opened_state config contents) (calls_of other next written_then) more second_then u) by_now steps_then) in
+      (subst (λ (contents : List Content). AreStepsServed g second (opened_state config contents) (calls_of other next written_then) more second_then u) by_now steps_then) in
       (one.pid, two.pid)

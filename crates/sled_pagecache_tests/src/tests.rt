@@ -37,6 +37,7 @@ mod recovery;
 mod rewriting;
 mod roots;
 mod scripts;
+mod served_law;
 mod sizes;
 mod snapshots;
 mod steps;

@@ -1,10 +1,9 @@
 //! What the caller of a cache over a staged disk does for it, between its calls.
 
-ghost use Rattle.std.specs.Prelude.{◌≡◌};
 ghost use Rattle.sled_disk.specs.HandedIn.{StandsAt};
-ghost use Rattle.sled_disk.specs.Served.{OnlyDisk, StaysALog};
+ghost use Rattle.sled_disk.specs.Served.{OnlyDisk};
 ghost use Rattle.sled_disk.specs.Staged.{Fails, Forgets, HandsOut, TakesIn, holds};
-ghost use Rattle.sled_pagecache.specs.Served.{StaysAsItIs};
+ghost use Rattle.sled_pagecache.specs.Served.{IsServed, StaysAsItIs};
 
 use super::PageCache;
 use sled_disk::{CallersFile, DiskLog, StagedDisk, Task};
@@ -17,8 +16,7 @@ impl<F: CallersFile> PageCache<DiskLog<StagedDisk<F>>> {
     /// The next task of the caller, or `None` once nothing waits: `StagedDisk::next_task`.
     pub fn next_task(&mut self, into: &mut [u8]) -> Option<Task>
         ensures next { OnlyDisk (HandsOut result into.new) self.old.log self.new.log }
-        ensures same { self.new ≡ record self.old { log = self.new.log } }
-        ensures stays { StaysALog ⟦<DiskLog<StagedDisk<F>> as Log>⟧ self.old.log self.new.log }
+        ensures served { IsServed ⟦<DiskLog<StagedDisk<F>> as Log>⟧ self.old self.new }
         ensures state { StaysAsItIs ⟦<DiskLog<StagedDisk<F>> as Log>⟧ self.old self.new }
     {
         self.sticky_log.log.next_task(into)
@@ -30,8 +28,7 @@ impl<F: CallersFile> PageCache<DiskLog<StagedDisk<F>>> {
     pub fn hand_in(&mut self, at: u64, bytes: &[u8]) -> Result<(), AllocError>
         requires word { F.tells → StandsAt at bytes.now (holds self.old.log.disk) }
         ensures taken { OnlyDisk (TakesIn at bytes.now) self.old.log self.new.log }
-        ensures same { self.new ≡ record self.old { log = self.new.log } }
-        ensures stays { StaysALog ⟦<DiskLog<StagedDisk<F>> as Log>⟧ self.old.log self.new.log }
+        ensures served { IsServed ⟦<DiskLog<StagedDisk<F>> as Log>⟧ self.old self.new }
         ensures state { StaysAsItIs ⟦<DiskLog<StagedDisk<F>> as Log>⟧ self.old self.new }
     {
         self.sticky_log.log.hand_in(at, bytes)
@@ -40,8 +37,7 @@ impl<F: CallersFile> PageCache<DiskLog<StagedDisk<F>>> {
     /// Lets go of what was handed in, and of what was needed.
     pub fn forget(&mut self)
         ensures forgets { OnlyDisk Forgets self.old.log self.new.log }
-        ensures same { self.new ≡ record self.old { log = self.new.log } }
-        ensures stays { StaysALog ⟦<DiskLog<StagedDisk<F>> as Log>⟧ self.old.log self.new.log }
+        ensures served { IsServed ⟦<DiskLog<StagedDisk<F>> as Log>⟧ self.old self.new }
         ensures state { StaysAsItIs ⟦<DiskLog<StagedDisk<F>> as Log>⟧ self.old self.new }
     {
         self.sticky_log.log.forget();
@@ -50,8 +46,7 @@ impl<F: CallersFile> PageCache<DiskLog<StagedDisk<F>>> {
     /// A write or a sync of the caller failed. Nothing is handed out any more, and each later write is a WriteFault.
     pub fn fail(&mut self)
         ensures fails { OnlyDisk Fails self.old.log self.new.log }
-        ensures same { self.new ≡ record self.old { log = self.new.log } }
-        ensures stays { StaysALog ⟦<DiskLog<StagedDisk<F>> as Log>⟧ self.old.log self.new.log }
+        ensures served { IsServed ⟦<DiskLog<StagedDisk<F>> as Log>⟧ self.old self.new }
         ensures state { StaysAsItIs ⟦<DiskLog<StagedDisk<F>> as Log>⟧ self.old self.new }
     {
         self.sticky_log.log.fail();

@@ -4,6 +4,7 @@ use Rattle.sled_log.specs.LogState.{unplaced_state}
 use Rattle.sled_log.specs.contracts.memory.calls.MemLogLog.TheImpl as mem
 use Rattle.sled_log.specs.declared.memory.MemLog.{MemLog}
 use Rattle.sled_pagecache.specs.Openings.{Opening, Lasted, IsRun, KeepIntervals, AreRising}
+use Rattle.sled_pagecache.specs.Inside.ServedLaws.{log-stays, made-unserved}
 use Rattle.sled_pagecache.specs.declared.pagecache.handles.call.Answer.TheVariants.{Generated}
 use Rattle.sled_pagecache.specs.declared.pagecache.handles.call.Call.TheVariants.{GenerateId}
 use Rattle.sled_pagecache_tests.proofs.tests.id_law.draw_three.Goals as goal
@@ -26,6 +27,21 @@ returns c =
     ∷ Lasted config two.0 ((GenerateId, Generated (Ok second)) ∷ []) two.1 two.2 c.in_ok-second.log
     ∷ Lasted config three.0 ((GenerateId, Generated (Ok third)) ∷ []) three.1 three.2 c.in_ok-third._log
     ∷ [] in
-    let run : IsRun mem.ghosts c.new.result openings = (one.3, one.4, one.5, (two.3, two.4, two.5, (three.3, three.4, three.5, tt))) in
+    let made = made-unserved mem.ghosts in
+    let run : IsRun mem.ghosts c.new.result openings = (
+      c.new.result,
+      log-stays mem.ghosts c.new.result,
+      one.3,
+      made one.0 one.1 ((GenerateId, Generated (Ok first)) ∷ []) one.4,
+      one.5,
+      (
+        c.in_ok-first.log,
+        log-stays mem.ghosts c.in_ok-first.log,
+        two.3,
+        made two.0 two.1 ((GenerateId, Generated (Ok second)) ∷ []) two.4,
+        two.5,
+        (c.in_ok-second.log, log-stays mem.ghosts c.in_ok-second.log, three.3, made three.0 three.1 ((GenerateId, Generated (Ok third)) ∷ []) three.4, three.5, tt),
+      ),
+    ) in
     let intervals : KeepIntervals 0 openings = (omega arith, (omega arith, (omega arith, tt))) in
     in-order first second third (c.ids_are_given_once.ensures tt c.new.result openings (ap unplaced_state c.new.ensures.state) run intervals)
