@@ -3,14 +3,15 @@ use Rattle.std.proofs.Common.{◌≡◌, ℕ, Option, None, Some, Result, Ok, Er
 use Rattle.sled_base.specs.declared.types.Error.{Error}
 use Rattle.sled_log.specs.declared.log.Log.{Ghosts}
 use Rattle.sled_log.specs.declared.memory.MemLog.{MemLog}
+use Rattle.sled_disk.specs.Staged.{seen_of}
 use Rattle.sled_disk.specs.declared.disk.Disk as disks
 use Rattle.sled_disk.specs.declared.disk.callers_file.CallersFile as callers
 use Rattle.sled_disk.specs.declared.disk.staged.StagedDisk.{StagedDisk}
 use Rattle.sled_pagecache.specs.Cache.{Cache}
 use Rattle.sled_pagecache.specs.declared.pagecache.handles.config.Config.{Config}
-use Rattle.sled_c.specs.FileOpenings.{IsNewLog, IsRead}
+use Rattle.sled_c.specs.FileOpenings.{IsNewLog, IsOpeningOver, IsRead}
 use Rattle.sled_c.specs.Files.{OpeningOver}
-use Rattle.sled_c.specs.Handles.{FileLog, StoreOver}
+use Rattle.sled_c.specs.Handles.{FileLog, StoreOver, ThroughStore}
 use Rattle.sled_c.specs.Numbers as number
 use Rattle.sled_c.specs.Numbers.{number_of_error}
 use Rattle.sled_c.specs.Rewriting.{GoesOnOver, IsAnswered, IsStarted, Rewrites, TellsRewritten, TellsStarted}
@@ -23,13 +24,20 @@ module _ {L : Type 0} {g : Ghosts L} {F : Type 0} {f : callers.Ghosts F} {d : di
       subst (λ (c : Cache L). Rewrites g old c before after status) (sym same)
       (subst (λ (b : Option (StoreOver l)). Rewrites g old left b after status) (sym from) (inr (given, fresh, (answer, is, tells))))
 
-  pub told_done : (log : FileLog d) (then : OpeningOver l) → answer ≡ Ok log → after ≡ Some (Begun then) → status ≡ number.ok → then.config ≡ opening.config → IsRead then log → Rewrites g old new before after status
-  told_done log then ea et es ec has =
+  pub told_done : (log : FileLog d) (then : OpeningOver l) → answer ≡ Ok log → after ≡ Some (Begun then) → status ≡ number.ok → then.config ≡ opening.config → IsRead then log → (f.tells → IsOpeningOver (seen_of log.disk) then) → Rewrites g old new before after status
+  told_done log then ea et es ec has over =
       told (subst (λ (a : Result (FileLog d) (Error × FileLog d)). TellsRewritten opening.config a after status) (sym ea)
-      (subst (λ (t : Option (StoreOver l)). TellsRewritten opening.config (Ok log) t status) (sym et) (es, ec, has)))
+      (subst (λ (t : Option (StoreOver l)). TellsRewritten opening.config (Ok log) t status) (sym et) (es, ec, has, over)))
 
   pub told_refused : (e : Error × FileLog d) → answer ≡ Err e → after ≡ None → status ≡ number_of_error e.0 → Rewrites g old new before after status
   told_refused e ea et es = told (subst (λ (a : Result (FileLog d) (Error × FileLog d)). TellsRewritten opening.config a after status) (sym ea) (es, et))
+
+-- what lies in another place is rewritten into as well
+pub rewrites-there : {F G : Type 0} {f : callers.Ghosts F} {h : callers.Ghosts G} {d : disks.Ghosts (StagedDisk F f)} {e : disks.Ghosts (StagedDisk G h)} {l : Ghosts (FileLog d)} {m : Ghosts (FileLog e)} (old new : StoreOver l) (status : ℕ) (before after : Option (StoreOver m)) {from to : Option (StoreOver m)}
+    → from ≡ before → to ≡ after → ThroughStore old new status (to ≡ from) (λ L g cache left status. Rewrites g cache left from to status) → ThroughStore old new status (after ≡ before) (λ L g cache left status. Rewrites g cache left before after status)
+rewrites-there {m = m} old new status before after {from} {to} is ends through =
+    subst (λ (x : Option (StoreOver m)). ThroughStore old new status (after ≡ x) (λ L g cache left status. Rewrites g cache left x after status)) is
+    (subst (λ (x : Option (StoreOver m)). ThroughStore old new status (x ≡ from) (λ L g cache left status. Rewrites g cache left from x status)) ends through)
 
 module _ (config : Config) {answer : Result MemLog (Error × MemLog)} (old new : Cache MemLog) (status : ℕ) where
   -- the rewriting was refused

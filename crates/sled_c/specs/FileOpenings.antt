@@ -1,5 +1,5 @@
 -- Opening a cache over a file, of which the program hands in the bytes.
-use Rattle.std.specs.Prelude.{◌≡◌, ◌≢◌, ◌⊎◌, ℕ, ⊤, false, List, [], ◌∷◌, ◌++◌, Option, None, Some, Ok, Err}
+use Rattle.std.specs.Prelude.{◌≡◌, ◌⊎◌, ℕ, ⊤, false, List, [], ◌∷◌, ◌++◌, Option, None, Some, Ok, Err}
 use Rattle.sled_base.specs.declared.types.Error.{Error}
 use Rattle.sled_base.specs.declared.types.Error.TheVariants.{Unsupported}
 use Rattle.sled_base.specs.declared.types.Why.{Why}
@@ -49,6 +49,11 @@ abbrev pub with_log : List ℕ → List ℕ
 with_log [] = format.opening ++ 0 ∷ []
 with_log (byte ∷ bytes) = byte ∷ bytes
 
+module _ {F : Type 0} {f : callers.Ghosts F} {d : disks.Ghosts (StagedDisk F f)} (l : Ghosts (FileLog d)) where
+  -- nothing was ever made durable in the log, and it holds no page
+  abbrev pub IsUnused : FileLog d → Type 0
+  IsUnused log = (l.bytes log ≡ new_size) × (log.pages.items ≡ [])
+
 module _ {F : Type 0} {f : callers.Ghosts F} {d : disks.Ghosts (StagedDisk F f)} {l : Ghosts (FileLog d)} where
   -- An opening with these settings goes on: bytes are needed, or the cache is open, or the handle is closed and it is told why.
   abbrev pub GoesOn : Config → Option (StoreOver l) → ℕ → Type 0
@@ -87,13 +92,13 @@ module _ {F : Type 0} {f : callers.Ghosts F} {d : disks.Ghosts (StagedDisk F f)}
   abbrev pub HasRead : OpeningOver l → Type 0
   HasRead opening = (log : FileLog d) × IsRead opening log
 
-  -- this one was read, and holds nothing
+  -- this one was read, and is unused
   abbrev pub IsNewLog : OpeningOver l → FileLog d → Type 0
-  IsNewLog opening log = IsRead opening log × (l.bytes log ≡ new_size)
+  IsNewLog opening log = IsRead opening log × IsUnused l log
 
   -- there is none
   abbrev pub IsNotNew : OpeningOver l → Type 0
-  IsNotNew opening = (log : FileLog d) → IsRead opening log → l.bytes log ≢ new_size
+  IsNotNew opening = (log : FileLog d) → IsRead opening log → ¬ IsUnused l log
 
   -- An opening with these settings goes on until its log is read: bytes are needed, or it is read, or the handle is closed and it is told why.
   abbrev pub ReadsOn : Config → Option (StoreOver l) → ℕ → Type 0

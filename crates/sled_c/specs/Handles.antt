@@ -9,13 +9,14 @@ use Rattle.std.specs.contracts.impls.GlobalAllocator.TheImpl.{ghosts}
 use Rattle.sled_log.specs.declared.log.Log.{Ghosts}
 use Rattle.sled_log.specs.declared.memory.MemLog.{MemLog}
 use Rattle.sled_log.specs.contracts.memory.calls.MemLogLog.TheImpl as mem
-use Rattle.sled_disk.specs.Served.{OnlyDisk, StaysALog}
+use Rattle.sled_disk.specs.Served.{OnlyDisk}
 use Rattle.sled_disk.specs.Staged.{Forgets, failed}
 use Rattle.sled_disk.specs.declared.disk.Disk as disks
 use Rattle.sled_disk.specs.declared.disk.callers_file.CallersFile as callers
 use Rattle.sled_disk.specs.declared.disk.staged.StagedDisk.{StagedDisk}
 use Rattle.sled_disk.specs.declared.log.DiskLog.{DiskLog}
 use Rattle.sled_pagecache.specs.Cache.{Cache}
+use Rattle.sled_pagecache.specs.Served.{IsServed}
 use Rattle.sled_c.specs.Numbers as number
 use Rattle.sled_c.specs.declared.store.Store.{Store}
 use Rattle.sled_c.specs.declared.store.Store.TheVariants.{Memory, File, Begun}
@@ -43,11 +44,10 @@ module _ {F : Type 0} {f : callers.Ghosts F} {d : disks.Ghosts (StagedDisk F f)}
   HasFailed old new status stays = (failed old.log.disk ≡ true) × (status ≡ number.write) × (new ≡ old) × stays
 
 module _ {F : Type 0} {f : callers.Ghosts F} {d : disks.Ghosts (StagedDisk F f)} (l : Ghosts (FileLog d)) where
-  -- The cache is the same but for the disk of its file, of which this holds; and its log stays in its state.
+  -- The cache was served: it is the same but for the disk of its file, of which this holds.
   pub record IsBut (holds : StagedDisk F f → StagedDisk F f → Type 0) (old new : Cache (FileLog d)) : Type 0 where
-    pub same : new ≡ record old { log = new.log }
+    pub served : IsServed l old new
     pub disk : OnlyDisk holds old.log new.log
-    pub stays : StaysALog l old.log new.log
 
   -- What a call over a file is told behind its own status: that bytes are needed, where a read of the file failed for them, and all stays; or
   -- that status, and what was handed in is let go.

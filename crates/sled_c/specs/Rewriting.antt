@@ -1,5 +1,7 @@
 -- Rewriting a cache into the log of another file, and one in memory into a new log over which it goes on.
 use Rattle.std.specs.Prelude.{◌≡◌, ◌⊎◌, ℕ, true, false, [], Option, None, Some, Result, Ok, Err, IfOk, IfErr}
+use Rattle.std.specs.Global.{Box}
+use Rattle.std.specs.Option.{option_map}
 use Rattle.sled_base.specs.declared.types.Device.TheVariants.{Write}
 use Rattle.sled_base.specs.declared.types.Error.{Error}
 use Rattle.sled_base.specs.declared.types.Error.TheVariants.{Unsupported, Io}
@@ -20,10 +22,11 @@ use Rattle.sled_pagecache.specs.Memory.{KeepsMemory}
 use Rattle.sled_pagecache.specs.Opening.{IsBlamedOpening, Opens, RefusesOpening, fault_of}
 use Rattle.sled_pagecache.specs.Rewriting.{IsBlamedRewriting, IsFullFor, IsRewritten, StaysInState}
 use Rattle.sled_pagecache.specs.declared.pagecache.handles.config.Config.{Config}
+use Rattle.sled_disk.specs.Staged.{seen_of}
 use Rattle.sled_disk.specs.declared.disk.Disk as disks
 use Rattle.sled_disk.specs.declared.disk.callers_file.CallersFile as callers
 use Rattle.sled_disk.specs.declared.disk.staged.StagedDisk.{StagedDisk}
-use Rattle.sled_c.specs.FileOpenings.{IsNewLog, IsNotNew, IsRead}
+use Rattle.sled_c.specs.FileOpenings.{IsNewLog, IsNotNew, IsOpeningOver, IsRead}
 use Rattle.sled_c.specs.Handles.{FileLog, StoreOver}
 use Rattle.sled_c.specs.Numbers as number
 use Rattle.sled_c.specs.Numbers.{number_of_error}
@@ -45,15 +48,19 @@ pub record IsAnswered {L M : Type 0} (g : Ghosts L) (h : Ghosts M) (old new : Ca
   pub full : g.tells → h.tells → old.fault ≡ false → IfErr answer (λ e. e.0 ≡ Unsupported LogFull → IsFullFor g h old given)
   pub unnamed : IfErr answer (λ e. HasNoName e.0)
 
+-- what lies in a box, if there is one
+abbrev pub stored : {S : Type 0} → Option (Box S) → Option S
+stored boxed = option_map (λ b. b.value) boxed
+
 -- nothing is done
 abbrev pub IsLeft : {L S : Type 0} → Cache L → Cache L → Option S → Option S → Type 0
 IsLeft old new before after = (new ≡ old) × (after ≡ before)
 
 module _ {F : Type 0} {f : callers.Ghosts F} {d : disks.Ghosts (StagedDisk F f)} {l : Ghosts (FileLog d)} where
-  -- The log that was answered lies behind the handle, over which a cache can be opened with the same settings; or the handle is closed, and the
-  -- error is told.
+  -- The log that was answered lies behind the handle, over which a cache can be opened with the same settings, as over all that the bytes of its
+  -- file describe; or the handle is closed, and the error is told.
   abbrev pub TellsRewritten : Config → Result (FileLog d) (Error × FileLog d) → Option (StoreOver l) → ℕ → Type 0
-  TellsRewritten config (Ok log) (Some (Begun opening)) status = (status ≡ number.ok) × (opening.config ≡ config) × IsRead opening log
+  TellsRewritten config (Ok log) (Some (Begun opening)) status = (status ≡ number.ok) × (opening.config ≡ config) × IsRead opening log × (f.tells → IsOpeningOver (seen_of log.disk) opening)
   TellsRewritten config (Ok log) into status = ⊥
   TellsRewritten config (Err refused) into status = (status ≡ number_of_error refused.0) × (into ≡ None)
 

@@ -1,8 +1,15 @@
 //! What holds of the definitions that the contracts of the calls cite.
 
+ghost use Rattle.std.specs.Prelude.{ℕ, List, Option};
+ghost use Rattle.sled_disk.specs.Staged.{Fails, Forgets, HandsOut, TakesIn};
+ghost use Rattle.sled_disk.specs.declared.disk.staged.tasks.Task.{Task};
+ghost use Rattle.sled_c.specs.FileOpenings.{IsOpeningOver};
+ghost use Rattle.sled_c.specs.Files.{OpeningIsBut, OpeningOver};
 ghost use Rattle.sled_c.specs.Pairs.{IsReadAgain};
 
-use sled_pagecache::Node;
+use crate::opening::FileLog;
+use sled_disk::CallersFile;
+use sled_pagecache::{Log, Node};
 
 /// The pairs of a leaf, as `get` writes them, are the pairs of a leaf that `allocate` and `replace` make of them. Nothing is done.
 pub fn pairs_are_read_again(node: &Node)
@@ -10,3 +17,19 @@ pub fn pairs_are_read_again(node: &Node)
 {
     let _data = node.data();
 }
+
+/// What is asked of the disk of an opening, and told it, leaves the opening over the same bytes of its file.
+pub fn an_opening_stays_over_its_bytes<F: CallersFile>()
+    ensures handed_out { F.tells → (task : Option Task) (buffer bytes : List ℕ)
+        (old new : OpeningOver ⟦<FileLog<F> as Log>⟧)
+        → OpeningIsBut (HandsOut task buffer) old new
+        → IsOpeningOver bytes old → IsOpeningOver bytes new }
+    ensures taken_in { F.tells → (at : ℕ) (piece bytes : List ℕ)
+        (old new : OpeningOver ⟦<FileLog<F> as Log>⟧)
+        → OpeningIsBut (TakesIn at piece) old new
+        → IsOpeningOver bytes old → IsOpeningOver bytes new }
+    ensures forgotten { F.tells → (bytes : List ℕ) (old new : OpeningOver ⟦<FileLog<F> as Log>⟧)
+        → OpeningIsBut Forgets old new → IsOpeningOver bytes old → IsOpeningOver bytes new }
+    ensures failed { F.tells → (bytes : List ℕ) (old new : OpeningOver ⟦<FileLog<F> as Log>⟧)
+        → OpeningIsBut Fails old new → IsOpeningOver bytes old → IsOpeningOver bytes new }
+{}

@@ -1,14 +1,17 @@
 //! Opening a cache over a file, of which the program hands in the bytes.
 
-ghost use Rattle.std.specs.Prelude.{◌≡◌, ℕ, List, None, length, true, IfOk, IfErr, IfSome, IfNone, OnOk};
+ghost use Rattle.std.specs.Prelude.{◌≡◌, ℕ, List, [], None, length, true, IfOk, IfErr, IfSome, IfNone, OnOk};
+ghost use Rattle.sled_log.specs.LogState.{now};
+ghost use Rattle.sled_log.specs.Messages.{effect_of_entry};
 ghost use Rattle.sled_log.specs.declared.log.LogError.TheVariants.{ReadFault};
 ghost use Rattle.sled_disk.specs.CallersFile.{held_after};
 ghost use Rattle.sled_disk.specs.Staged.{seen_of};
 ghost use Rattle.sled_pagecache.specs.Opening.{MayBeOpened, fault_of};
-ghost use Rattle.sled_c.specs.FileOpenings.{HasRead, IsFailure, IsLogOver, IsNotNew, IsOpened, IsOpenedOver, IsOpeningOver, IsRead, TellsFault, new_size, with_log};
+ghost use Rattle.sled_c.specs.FileOpenings.{HasRead, IsFailure, IsLogOver, IsNotNew, IsOpened, IsOpenedOver, IsOpeningOver, IsRead, IsUnused, TellsFault, with_log};
 
 use crate::status::{READ, status_of};
 use read_log::{PartRead, ReadLog};
+use sled_disk::laws::a_log_is_of_its_bytes;
 use sled_disk::{CallersFile, DiskLog, Reader, StagedDisk};
 use sled_log::LogError;
 use sled_pagecache::{Config, Disk, Error, Log, PageCache};
@@ -119,14 +122,16 @@ impl<F: CallersFile> Opening<F> {
     /// Takes out the log, if it was read and holds nothing.
     pub fn take_new_log(&mut self) -> Option<FileLog<F>>
         ensures some { IfSome result (λ log. IsRead self.old log) }
-        ensures new { IfSome result (λ log. ⟦<FileLog<F> as Log>⟧.bytes log ≡ new_size) }
+        ensures new { IfSome result (IsUnused ⟦<FileLog<F> as Log>⟧) }
+        ensures empty { F.tells
+            → IfSome result (λ log. now effect_of_entry (⟦<FileLog<F> as Log>⟧.state log) ≡ []) }
         ensures may { IfSome result (MayBeOpened ⟦<FileLog<F> as Log>⟧) }
         ensures none { IfNone result (IsNotNew self.old) }
         ensures kept { IfNone result (self.new ≡ self.old) }
         ensures config { self.new.config ≡ self.old.config }
     {
         let is_new = match &self.step {
-            Some(Step::Read(read)) => read.log.size() == NEW_SIZE,
+            Some(Step::Read(read)) => read.log.size() == NEW_SIZE && read.log.is_empty(),
             _ => false,
         };
         if !is_new {
@@ -143,7 +148,10 @@ impl<F: CallersFile> Opening<F> {
         requires { MayBeOpened ⟦<FileLog<F> as Log>⟧ log }
         ensures read { IsRead self.new log }
         ensures config { self.new.config ≡ self.old.config }
+        ensures over { F.tells → (⟦<FileLog<F> as Log>⟧.state log).pending ≡ []
+            → IsOpeningOver (seen_of log.disk) self.new }
     {
+        a_log_is_of_its_bytes(&log);
         self.step = Some(Step::Read(ReadLog { log }));
         self.needs = None;
     }

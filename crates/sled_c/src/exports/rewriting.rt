@@ -1,7 +1,7 @@
 //! Rewriting a cache into another log, which takes no more than its pages do.
 
 ghost use Rattle.std.specs.Prelude.{◌≡◌, ⊤};
-ghost use Rattle.sled_c.specs.Handles.{Through, ThroughMemory};
+ghost use Rattle.sled_c.specs.Handles.{Through, ThroughMemory, ThroughStore};
 ghost use Rattle.sled_c.specs.Rewriting.{Compacts, Rewrites};
 
 use crate::exports::opening::Settings;
@@ -21,7 +21,20 @@ pub extern "C" fn dilluvas_raw_rewrite(alloc: Global, handle: &mut Handle, into:
     ensures { Through handle.old.store handle.new.store result (into.new.store ≡ into.old.store)
         (λ _ g old new status. Rewrites g old new into.old.store into.new.store status) }
 {
-    behind!(alloc, handle, store => through::rewrite(alloc, store, into))
+    behind!(alloc, handle, store => rewrite_behind(alloc, store, into))
+}
+
+// Writes the pages of the cache of a store to the log of the store behind a handle.
+fn rewrite_behind(alloc: Global, store: &mut Store, into: &mut Handle) -> u32
+    ensures { ThroughStore store.old store.new result (into.new.store ≡ into.old.store)
+        (λ _ g old new status. Rewrites g old new into.old.store into.new.store status) }
+{
+    let mut other = into.take(alloc);
+    let status = through::rewrite(store, &mut other);
+    if let Some(other) = other {
+        into.put(alloc, other);
+    }
+    status
 }
 
 /// Rewrites a cache in memory into a new log, and opens one over that in its place. Where that fails the cache goes on as it was.

@@ -2,29 +2,33 @@
 
 ghost use Rattle.std.specs.Prelude.{◌≡◌};
 ghost use Rattle.sled_c.specs.Handles.{ThroughStore};
-ghost use Rattle.sled_c.specs.Rewriting.{Rewrites};
+ghost use Rattle.sled_c.specs.Rewriting.{Rewrites, stored};
 
 use crate::file::{has_failed, told};
-use crate::handle::Handle;
 use crate::status::{ALREADY_OPEN, CLOSED, OK, WRITE, status_of};
 use crate::store::Store;
 use sled_disk::CallersFile;
 use sled_pagecache::{Log, PageCache};
-use std::alloc::Global;
 
-/// The file behind the other handle is out of sight.
-pub fn rewrite<F: CallersFile>(alloc: Global, store: &mut Store<F>, into: &mut Handle) -> u32
-    ensures { ThroughStore store.old store.new result (into.new.store ≡ into.old.store)
-        (λ _ g old new status. Rewrites g old new into.old.store into.new.store status) }
+/// The new log lies in the file of another caller, or of the same. There is no store any more where the call fails.
+pub fn rewrite<F: CallersFile, G: CallersFile>(
+    store: &mut Store<F>,
+    into: &mut Option<Box<Store<G>>>,
+) -> u32
+    ensures { ThroughStore store.old store.new result (stored into.new ≡ stored into.old)
+        (λ _ g old new status. Rewrites g old new (stored into.old) (stored into.new) status) }
 {
-    through!(store, cache => rewrite_into(alloc, cache, into))
+    through!(store, cache => rewrite_into(cache, into))
 }
 
-// Writes the pages of a cache to the log behind a handle.
-fn rewrite_into<L: Log>(alloc: Global, cache: &mut PageCache<L>, into: &mut Handle) -> u32
-    ensures { Rewrites L.Log cache.old cache.new into.old.store into.new.store result }
+// Writes the pages of a cache to the log of a store.
+fn rewrite_into<L: Log, G: CallersFile>(
+    cache: &mut PageCache<L>,
+    into: &mut Option<Box<Store<G>>>,
+) -> u32
+    ensures { Rewrites L.Log cache.old cache.new (stored into.old) (stored into.new) result }
 {
-    let Some(mut store) = into.take(alloc) else {
+    let Some(mut store) = into.take() else {
         return CLOSED;
     };
     let status = match &mut *store {
@@ -40,6 +44,6 @@ fn rewrite_into<L: Log>(alloc: Global, cache: &mut PageCache<L>, into: &mut Hand
         },
         _ => ALREADY_OPEN,
     };
-    into.put(alloc, store);
+    *into = Some(store);
     status
 }

@@ -9,7 +9,7 @@ returns-in-Ok-clause-over g c told bytes over =
       over = over;
       first = c.in-Ok.cache;
       started = record { settings = c.in-Ok.ensures.settings; opens = λ none held is. c.in-Ok.ensures.opens none told held is };
-      same = record { same = c.forget.ensures.same; disk = c.forget.ensures.forgets; stays = c.forget.ensures.stays };
+      same = record { served = c.forget.ensures.served; disk = c.forget.ensures.forgets };
     }
 
 pub returns-else-is_none-clause-waits : goal.returns-else-is_none-clause-waits

@@ -17,7 +17,7 @@ returns g c = elim c.match-deref_mut.branch [
       let e = w.rewrite_into.ensures in
       told_done {opening = w.in-Begun.opening} {given = w.in-Some-take_new_log.log} {answer = w.rewrite_into.result} (search rules, search rules)
       (record { stuck = e.stuck; in_batch = e.in_batch; rewritten = e.rewritten; step = e.step; left = e.left; same = e.same; fault = e.fault; blame = e.blame; refused = e.refused; full = e.full; unnamed = e.unnamed })
-      c.match-deref_mut.cache w.cache-is _ _ (search rules) c.match-deref_mut.status w.in-Ok.log w.put_log.new.self w.in-Ok.is (search rules) w.status-is (search rules) (search rules)
+      c.match-deref_mut.cache w.cache-is _ _ (search rules) c.match-deref_mut.status w.in-Ok.log w.put_log.new.self w.in-Ok.is (search rules) w.status-is (search rules) (search rules) (λ tells. w.put_log.ensures.over tells w.in-Ok.ensures.rewritten.none)
   | in-Begun+in-None w ↦ search rules
   | in_default-deref_mut w ↦ search rules
 ]
