@@ -10,7 +10,7 @@ use crate::store::Store;
 use sled_disk::CallersFile;
 use sled_pagecache::{Log, PageCache};
 
-/// The new log lies in the file of another caller, or of the same. There is no store any more where the call fails.
+/// The new log lies in the file of another caller, or of the same. Where the cache refuses to be rewritten, the other store is let go.
 pub fn rewrite<F: CallersFile, G: CallersFile>(
     store: &mut Store<F>,
     into: &mut Option<Box<Store<G>>>,
