@@ -112,9 +112,10 @@ function below(n) {
     return int(rand() * n)
 }
 
-# A value that no other command of this file has; now and then a long one, so that a frame is written without a flush.
+# A value that no other command of this file has; now and then a long one, so that a frame is written without a flush, and in long batches
+# each, of 1,200 bytes and more.
 function new_value() {
-    return sprintf("%08x%06x", seed % 2147483648, ++values) (below(30) == 0 ? sprintf("%0800d", 0) : "")
+    return sprintf("%08x%06x", seed % 2147483648, ++values) (is_long || below(30) == 0 ? sprintf("%0*d", is_long ? 2400 : 800, 0) : "")
 }
 
 function new_pairs(    key, text) {
@@ -142,10 +143,13 @@ function write_change(    page, kind, at) {
     else write("get " page)
 }
 
+# A long one has ten segments and more.
 function write_batch(    left) {
+    is_long = below(4) == 0
     write("pin")
-    for (left = 1 + below(8); left > 0; left--) write_change()
+    for (left = is_long ? 50 : 1 + below(8); left > 0; left--) write_change()
     write(below(4) == 0 ? "cancel" : "seal")
+    is_long = 0
 }
 
 function make(    i, kind, page) {

@@ -1,7 +1,8 @@
 #!/bin/sh
 # Kills the program at random moments while it changes a file, over and over, and opens the file with the program each time. Prints what
 # differs: the file holds the pages after a prefix of the script's changes that splits no batch and has all that a reply had confirmed,
-# and no id comes twice (kill.awk says how that is judged).
+# and no id comes twice (kill.awk says how that is judged). Some batches have ten segments and more, so that some kills leave a part of one in
+# the file.
 #
 #     tools/kill.sh [PROGRAM [KILLS [SEED]]]
 #
@@ -47,13 +48,20 @@ crash() {
     [ "$ended" -ne 137 ] || kills=$((kills + 1))
 }
 
+# How many batches the file says were abandoned: records of kind 14 with the page of batches and a payload of 8 bytes.
+count_abandoned() {
+    od -An -v -tx1 log | tr -d ' \n' | awk '{ count = gsub(/0e65fdffffffffffff0800000000000000/, "") } END { print count + 0 }'
+}
+
 [ -x "$program" ] || { echo "kill.sh: there is no program $program"; exit 1; }
 round=0
 kills=0
+parts=0
 while [ "$kills" -lt "$wanted" ]; do
     if [ $((round % rounds)) -eq 0 ]; then
         rm -f log
         : >state
+        abandoned=0
     fi
     round=$((round + 1))
     delay=$(awk -v task=make -v seed="$((seed + round))" -v latest="$latest" -f "$top/tools/kill.awk" state)
@@ -68,6 +76,13 @@ while [ "$kills" -lt "$wanted" ]; do
         exit 1
     fi
     mv judged state
+    before=$abandoned
+    abandoned=$(count_abandoned)
+    parts=$((parts + abandoned - before))
 done
+if [ "$kills" -ge 100 ] && [ "$parts" -eq 0 ]; then
+    echo "kill.sh: of $kills kills none left a part of a batch in the file"
+    exit 1
+fi
 KEEP=
-echo "kill.sh: $kills kills in $round rounds, seed $seed: nothing is lost"
+echo "kill.sh: $kills kills in $round rounds, of which $parts left a part of a batch in the file, seed $seed: nothing is lost"

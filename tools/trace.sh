@@ -75,7 +75,17 @@ trace() {
     printf 'get 2\nsize\n' >script
     { opens '' && writes_again 90; } >expected
     is_called 'a file that is only read'
-    echo 'trace.sh: the calls of three runs are as they have to be'
+    # a batch that the end of the script cancels, with two changes of one byte and 3,000 (3,023 each): a frame in it is written
+    printf 'pin\nset 2 0 61 %06000d\nset 2 1 61 %06000d\n' 0 0 >script
+    { opens '' && writes_again 90 && frame 121 6063; } >expected
+    is_called 'a batch that is written in part'
+    # the frame that says that it was abandoned
+    printf 'get 2\n' >script
+    { opens '' && writes_again 121 && frame 6193 25; } >expected
+    is_called 'a file that ends inside a batch'
+    { opens '' && writes_again 6193; } >expected
+    is_called 'a file with an abandoned batch'
+    echo 'trace.sh: the calls of six runs are as they have to be'
 }
 
 if command -v strace >/dev/null && strace -o calls true 2>/dev/null; then

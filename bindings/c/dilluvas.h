@@ -364,7 +364,7 @@ static inline dilluvas_status dilluvas_open_tree(dilluvas *d, const uint8_t *nam
 
 /* ---- Batches: a crash leaves all of one or nothing. */
 
-/* Opens a batch.
+/* Opens a batch. Over a file it is written while it is open, so it may be larger than memory.
  *
  * Answers BATCH_OPEN, LOG_FULL, MEMORY. */
 static inline dilluvas_status dilluvas_pin(dilluvas *d) {

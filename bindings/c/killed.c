@@ -1,8 +1,10 @@
 /* Kills a process that writes a file and rewrites it, at a random moment, and opens the file again: what was said to be flushed is there, of a
- * batch all or nothing, and no id comes twice. Every second process ends itself, before a random call of the system in a rewriting. Linked
- * with --wrap=pwrite, --wrap=fdatasync, --wrap=fsync and --wrap=rename. Usage: killed FOLDER TIMES, in which it makes its file. */
+ * batch all or nothing, and no id comes twice. A batch is written as ten frames and more. Of three processes one ends itself before a random
+ * call of the system in a rewriting, and one before a random call in a batch. Linked with --wrap=pwrite, --wrap=fdatasync, --wrap=fsync and
+ * --wrap=rename. Usage: killed FOLDER TIMES, in which it makes its file. */
 #define _DEFAULT_SOURCE
 #include "dilluvas_file.h"
+#include <fcntl.h>
 #include <signal.h>
 #include <stdio.h>
 #include <stdlib.h>
@@ -19,13 +21,14 @@
         } \
     } while (0)
 
-enum { PAGES = 60 };
+/* A round changes each page, by 29 bytes or more, which is ten segments, or one for those that end in a rewriting: that makes so few calls. */
+enum { PAGES = 60, CALLS_IN_A_BATCH = 44, CALLS_IN_A_REWRITING = 16 };
 
-static const dilluvas_file_settings settings = {1024, 10, 2048};
+static const dilluvas_file_settings short_segments = {1024, 10, 160}, long_segments = {1024, 10, 2048};
 
 static char path[4096];
 
-/* What a process says once a round is flushed; or, where the round is 0, before which call of a rewriting it ends. */
+/* What a process says once a round is flushed; or, where the round is 0, before which call it ends. */
 typedef struct told {
     uint64_t round, id;
 } told;
@@ -34,11 +37,16 @@ typedef struct told {
 
 enum call { WRITE, SYNC, RENAME, SYNC_FOLDER, END, CALLS };
 
-/* Where a process says what it does, while it rewrites the file, and before which call it ends, unless that is below 0. */
+/* How a process comes to its end. */
+enum way { IS_KILLED, ENDS_IN_REWRITING, ENDS_IN_BATCH, WAYS };
+
+static enum way way;
+
+/* Where a process says what it does, while it does that in which it ends, and before which call it ends. */
 static int teller = -1, ends_at = -1;
 
 static void may_end(enum call call) {
-    if (teller < 0 || ends_at < 0 || ends_at-- > 0) return;
+    if (teller < 0 || ends_at-- > 0) return;
     told last = {0, call};
     CHECK(write(teller, &last, sizeof last) == sizeof last);
     kill(getpid(), SIGKILL);
@@ -81,12 +89,13 @@ static dilluvas_status get_round(dilluvas_file *file, uint64_t page, uint64_t *s
 }
 
 /* Puts the round on all pages, every second one in a batch, and flushes. */
-static void make_round(dilluvas_file *file, uint64_t round) {
+static void make_round(dilluvas_file *file, uint64_t round, int to) {
     dilluvas_status status;
     size_t written;
     uint64_t stamp, before;
     bool in_batch = round % 2;
     if (in_batch) {
+        if (way == ENDS_IN_BATCH) teller = to;
         DILLUVAS_FILE_CALL(file, status, dilluvas_pin(&file->cache));
         CHECK(status == DILLUVAS_OK);
     }
@@ -103,6 +112,7 @@ static void make_round(dilluvas_file *file, uint64_t round) {
     }
     DILLUVAS_FILE_CALL(file, status, dilluvas_flush(&file->cache, &written));
     CHECK(status == DILLUVAS_OK);
+    teller = -1;
 }
 
 /* Makes rounds, and says each once it is flushed, until it is killed. */
@@ -110,7 +120,7 @@ static void write_rounds(int to) {
     dilluvas_file file = DILLUVAS_FILE_CLOSED;
     dilluvas_status status;
     uint64_t round = 0, found, stamp, page;
-    CHECK(dilluvas_file_open(&file, path, &settings) == DILLUVAS_OK);
+    CHECK(dilluvas_file_open(&file, path, way == ENDS_IN_REWRITING ? &long_segments : &short_segments) == DILLUVAS_OK);
     for (uint64_t wanted = 2; wanted < PAGES + 2; wanted++) {
         if (get_round(&file, wanted, &stamp, &found) == DILLUVAS_GONE) {
             DILLUVAS_FILE_CALL(&file, status, dilluvas_allocate(&file.cache, NULL, 0, &page, &stamp));
@@ -120,25 +130,25 @@ static void write_rounds(int to) {
     }
     for (int made = 0;; made++) {
         if (made % 3 == 2) {
-            teller = to;
+            if (way == ENDS_IN_REWRITING) teller = to;
             CHECK(dilluvas_file_compact(&file) == DILLUVAS_OK);
-            if (ends_at > 0) ends_at = 0;
+            ends_at = way == ENDS_IN_REWRITING ? 0 : ends_at;
             may_end(END);
             teller = -1;
         }
         told told = {++round, 0};
         DILLUVAS_FILE_CALL(&file, status, dilluvas_generate_id(&file.cache, &told.id));
         CHECK(status == DILLUVAS_OK);
-        make_round(&file, round);
+        make_round(&file, round, to);
         if (write(to, &told, sizeof told) != sizeof told) exit(0);
     }
 }
 
-/* Before each call, how many processes ended in a rewriting. */
-static unsigned long ended[CALLS];
+/* Before each call, how many processes ended in a rewriting, and in a batch. */
+static unsigned long ended[WAYS][CALLS];
 
 /* Lets a process write for a while, and kills it, or lets it end itself, and takes what it told last. */
-static void kill_one(told *last, unsigned long *rounds, bool ends_itself) {
+static void kill_one(told *last, unsigned long *rounds) {
     int ends[2], status;
     uint64_t id_before = last->id;
     told told;
@@ -148,11 +158,11 @@ static void kill_one(told *last, unsigned long *rounds, bool ends_itself) {
     if (child == 0) {
         close(ends[0]);
         srand((unsigned)getpid());
-        ends_at = ends_itself ? rand() % 16 : -1;
+        ends_at = rand() % (way == ENDS_IN_BATCH ? CALLS_IN_A_BATCH : CALLS_IN_A_REWRITING);
         write_rounds(ends[1]);
     }
     close(ends[1]);
-    if (!ends_itself) {
+    if (way == IS_KILLED) {
         struct timespec while_ = {0, (rand() % 30000) * 1000L};
         nanosleep(&while_, NULL);
         kill(child, SIGKILL);
@@ -160,7 +170,7 @@ static void kill_one(told *last, unsigned long *rounds, bool ends_itself) {
     CHECK(waitpid(child, &status, 0) == child && WIFSIGNALED(status) && WTERMSIG(status) == SIGKILL);
     while (read(ends[0], &told, sizeof told) == sizeof told) {
         if (told.round == 0) {
-            ended[told.id]++;
+            ended[way][told.id]++;
             break;
         }
         CHECK(*rounds == 0 || told.id > id_before);
@@ -170,11 +180,33 @@ static void kill_one(told *last, unsigned long *rounds, bool ends_itself) {
     close(ends[0]);
 }
 
+/* The bytes of the file up to its closed gate, and that one, or 0 where there is none. */
+static uint64_t bytes_in_file(void) {
+    uint64_t at = 8, len;
+    uint8_t gate;
+    int descriptor = open(path, O_RDONLY);
+    if (descriptor < 0) return 0;
+    while (pread(descriptor, &gate, 1, (off_t)at) == 1 && gate) {
+        CHECK(pread(descriptor, &len, sizeof len, (off_t)at + 1) == sizeof len);
+        at += 9 + len;
+    }
+    close(descriptor);
+    return at + 1;
+}
+
+/* The bytes of the frame that says of a batch that it was abandoned. */
+enum { ABANDONING = 34 };
+
+/* How many files ended in a batch. */
+static unsigned long abandoned;
+
 /* Opens the file: how many of the pages are at which round. */
 static void compare(const told *last) {
     dilluvas_file file = DILLUVAS_FILE_CLOSED;
-    uint64_t least = UINT64_MAX, most = 0, found, stamp;
-    CHECK(dilluvas_file_open(&file, path, &settings) == DILLUVAS_OK);
+    uint64_t least = UINT64_MAX, most = 0, found, stamp, before = bytes_in_file();
+    CHECK(dilluvas_file_open(&file, path, &short_segments) == DILLUVAS_OK);
+    CHECK(bytes_in_file() == before || bytes_in_file() == before + ABANDONING || last->round == 0);
+    abandoned += bytes_in_file() == before + ABANDONING;
     for (uint64_t page = 2; page < PAGES + 2; page++) {
         dilluvas_status status = get_round(&file, page, &stamp, &found);
         CHECK(status == DILLUVAS_OK || status == DILLUVAS_NONE || (status == DILLUVAS_GONE && last->round == 0));
@@ -196,12 +228,17 @@ int main(int count, char **arguments) {
     unlink(path);
     srand(1);
     for (int i = 0; i < times; i++) {
-        kill_one(&last, &rounds, i % 2);
+        way = (enum way)(i % WAYS);
+        kill_one(&last, &rounds);
         compare(&last);
     }
     unlink(path);
+    const unsigned long *in = ended[ENDS_IN_REWRITING];
     printf("%d kills: none of %lu flushed rounds was lost; in a rewriting %lu before a write, %lu before a sync, %lu before the new name, %lu "
-           "before that was durable, and %lu behind it\n", times, rounds, ended[WRITE], ended[SYNC], ended[RENAME], ended[SYNC_FOLDER], ended[END]);
-    CHECK(times < 200 || (ended[WRITE] && ended[SYNC] && ended[RENAME] && ended[SYNC_FOLDER]));
+           "before that was durable, and %lu behind it\n", times, rounds, in[WRITE], in[SYNC], in[RENAME], in[SYNC_FOLDER], in[END]);
+    CHECK(times < 300 || (in[WRITE] && in[SYNC] && in[RENAME] && in[SYNC_FOLDER]));
+    in = ended[ENDS_IN_BATCH];
+    printf("in a batch %lu before a write and %lu before a sync; %lu files ended in a batch\n", in[WRITE], in[SYNC], abandoned);
+    CHECK(times < 300 || (in[WRITE] && in[SYNC] && abandoned > in[WRITE]));
     return 0;
 }

@@ -5,8 +5,8 @@ import os
 import judge
 from dilluvas import OK, Refused
 from judge import answer_of, check
-from journal import records_of
-from logs import is_log
+from journal import BEGUN_BATCH, CLOSING, gates_of, records_of
+from logs import abandoned, is_log
 from machine import CORRUPTION, Node
 from payloads import Unreadable, chains_of, is_fit, roots_in, shown_of
 
@@ -36,7 +36,7 @@ class Script(judge.Script):
 
     def _damaged(self):
         content, random = bytearray(self.whole), self.random
-        way = random.randrange(8)
+        way = random.randrange(11)
         if way == 0:
             del content[random.randint(1, len(content) - 1) :]
         elif way == 1:
@@ -47,6 +47,12 @@ class Script(judge.Script):
         elif way < 5:
             for _ in range(random.randint(1, 8)):
                 content[random.randrange(len(content))] ^= random.randrange(1, 256)
+        elif way < 7:
+            # what stands behind may be a part of a batch
+            content[random.choice(gates_of(content))] = 0
+        elif way == 7:
+            marks = [at - 17 for kind, _, at, _ in records_of(content) if kind in (BEGUN_BATCH, *CLOSING)]
+            content[random.choice(marks or [0])] = random.choice((BEGUN_BATCH, *CLOSING))
         else:
             _, _, at, length = random.choice([record for record in records_of(self.whole) if record[3]])
             for _ in range(random.randint(1, 3)):
@@ -64,9 +70,10 @@ class Script(judge.Script):
             self.counts["damaged files refused"] += 1
             check(refused.status == CORRUPTION and not opens, "refused", refused.status)
             with open(self.path, "rb") as file:
-                check(file.read() == content, "a file that is refused was written")
+                check(file.read() == abandoned(content), "a file that is refused was written")
             return
         self.counts["damaged files opened"] += 1
+        self.counts["abandoned batches"] += abandoned(content) != content
         with cache:
             check(opens, "a file is opened that no cache wrote")
             pages = self._shows(cache, chains)

@@ -5,8 +5,9 @@
         stamp = cache.set(page, stamp, b"key", b"other")
         assert cache.get(page).pairs == [(b"key", b"other")]
 
-dilluvas_file has one over a file. Threads may share a cache: a call waits until no other is under way. The library is libdilluvas.so of
-the folder that bindings/build.sh fills, or the file that the variable DILLUVAS_SO names; it is loaded as the first call is made.
+dilluvas_file has one over a file. Threads may share a cache: a call waits until no other is under way. The library is the file that
+the variable DILLUVAS_SO names, or else the one that was installed with this module, or libdilluvas.so of the folder that bindings/build.sh
+fills; it is loaded as the first call is made.
 """
 
 import ctypes
@@ -93,7 +94,9 @@ _CALLS = {
 
 @functools.cache
 def _load():
-    beside = os.path.join(os.path.dirname(os.path.abspath(__file__)), "..", "out", "libdilluvas.so")
+    here = os.path.dirname(os.path.abspath(__file__))
+    installed = os.path.join(here, "dilluvas.libs", "libdilluvas.so")
+    beside = installed if os.path.exists(installed) else os.path.join(here, "..", "out", "libdilluvas.so")
     library = ctypes.CDLL(os.environ.get("DILLUVAS_SO", beside))
     for name, parameters in _CALLS.items():
         function = getattr(library, "dilluvas_raw_" + name)

@@ -15,8 +15,11 @@ import dilluvas_paths
 from dilluvas import Refused
 from dilluvas_file import FileCache
 
-# In each of so many openings so many pages are added at most, each of which a flush follows.
-OPENINGS, PAGES = 4, 2
+# In each of so many openings so many pages are added at most, each of which a flush follows, and then a batch is begun that is lost.
+OPENINGS, PAGES = 3, 2
+
+# A page has less, and a batch more.
+SEGMENT = 100
 
 # The device writes blocks of so many bytes, of which the first has the opening bytes and a gate.
 BLOCKS = 16, 50, 512
@@ -69,11 +72,14 @@ def opener(system):
 def add_pages(open_cache, path, confirmed):
     """Opens the file and adds pages, up to the first call that is refused: the pages that are confirmed then, with those before."""
     try:
-        with open_cache(path) as cache:
+        with open_cache(path, segment_size=SEGMENT) as cache:
             for _ in range(PAGES):
                 page, _ = cache.allocate([(b"key", bytes(40))])
                 cache.flush()
                 confirmed = confirmed | {page}
+            cache.pin()
+            for _ in range(PAGES):
+                cache.allocate([(b"key", bytes(41))])
     except Refused:
         pass
     return confirmed

@@ -7,7 +7,9 @@ from machine import BATCH, CANCEL, COUNTER, FLUSH, PIN, ROOTS, SEAL, Change
 OPENING = b"SLPCLOG1"
 
 # The kinds of records.
-CANCELLED_BATCH, SEALED_BATCH, FREED, OF_COUNTER, OF_ROOTS, OF_NODE, OF_LINK = 1, 3, 4, 5, 6, 8, 10
+CANCELLED_BATCH, OLD_MARK, FREED, OF_COUNTER, OF_ROOTS, OF_NODE, OF_LINK = 1, 3, 4, 5, 6, 8, 10
+BEGUN_BATCH, SEALED_BATCH, ABANDONED_BATCH = 12, 13, 14
+CLOSING = SEALED_BATCH, CANCELLED_BATCH, ABANDONED_BATCH
 
 
 def number(value):
@@ -54,78 +56,114 @@ def record(kind, page, payload):
     return struct.pack("<BQQ", kind, page, len(payload)) + payload
 
 
+def closing(kind, place):
+    """The record that closes the batch that was begun there."""
+    return record(kind, BATCH, struct.pack("<Q", place))
+
+
 class Journal:
     """What the file has to be, up to its closed gate, what waits, and which pages the file holds."""
 
     def __init__(self):
         self.image = bytearray(OPENING + b"\0")
         self.segment_size = 1
-        self.stable, self.pending, self.changes = [], bytearray(), []
-        self.batch = self.last = None
-        # every end that the file has had since this was emptied, and what it held then
-        self.ends = []
+        self.stable, self.pending, self.events = [], bytearray(), []
+        # the place of the record that began the batch that is open, and the changes of a batch in which the file ends
+        self.batch, self.spilled = None, None
+        # every end that the file has had since this was emptied, and what it held then; and of the ends inside a batch where that began
+        self.ends, self.begun = [], {}
 
     def take(self, event):
         """Does what an event does to the log, and answers how many bytes a flush wrote."""
-        if isinstance(event, Change):
-            self._append(event)
-        elif event == PIN:
-            self.batch = self.last = len(self.pending)
-            self.pending += record(CANCELLED_BATCH, BATCH, bytes(8))
-        elif event == SEAL:
-            place = len(self.image) + 8 + self.last
-            self.pending[self.batch : self.batch + 25] = record(SEALED_BATCH, BATCH, struct.pack("<Q", place))
-            self.batch = None
-        elif event == CANCEL:
-            self.batch = None
-        elif event == FLUSH:
+        if event == FLUSH:
             return self._write()
-        return None
-
-    def _append(self, change):
-        self.last = len(self.pending)
-        self.pending += record(*self._placed(change))
-        self.changes.append(change)
-        if self.batch is None and len(self.pending) >= self.segment_size:
+        if event == PIN:
+            self.batch = len(self.image) + 8 + len(self.pending)
+            self.pending += record(BEGUN_BATCH, BATCH, b"")
+        elif event in (SEAL, CANCEL):
+            self.pending += closing(SEALED_BATCH if event == SEAL else CANCELLED_BATCH, self.batch)
+            self.batch = None
+        elif isinstance(event, Change):
+            kind, payload = payload_of(event)
+            self.pending += record(kind, event.page, payload)
+        else:
+            # an id that is given
+            return None
+        self.events.append(event)
+        if isinstance(event, Change) and len(self.pending) >= self.segment_size:
             self._write()
-
-    def _placed(self, change):
-        kind, payload = payload_of(change)
-        return kind, change.page, payload
+        return None
 
     def _write(self):
         if not self.pending:
             return 0
-        self.image[-1] = 1
-        self.image += struct.pack("<Q", len(self.pending)) + self.pending + b"\0"
-        for change in self.changes:
-            if change.page == len(self.stable):
-                self.stable.append(change.held)
+        self._add(self.pending)
+        for event in self.events:
+            if event == PIN:
+                self.spilled = []
+            elif event in (SEAL, CANCEL):
+                for change in self.spilled:
+                    self._count(change)
+                self.spilled = None
+            elif self.spilled is None:
+                self._count(event)
             else:
-                self.stable[change.page] = change.held
+                self.spilled.append(event)
         written = len(self.pending) + 10
-        self.pending, self.changes = bytearray(), []
+        self.pending, self.events = bytearray(), []
         self.mark()
         return written
+
+    def _add(self, records):
+        """Adds a frame with these records."""
+        self.image[-1] = 1
+        self.image += struct.pack("<Q", len(records)) + records + b"\0"
+
+    def _count(self, change):
+        if change.page == len(self.stable):
+            self.stable.append(change.held)
+        else:
+            self.stable[change.page] = change.held
 
     def mark(self):
         """Notes what the file is now."""
         self.ends.append((len(self.image), list(self.stable)))
+        if self.batch is not None:
+            self.begun[len(self.image)] = self.batch
 
-    def reopen(self, end, stable):
-        """What waited is lost, and the file ends there."""
-        self.image[end - 1 :] = b"\0"
-        self.stable, self.pending, self.changes, self.batch = list(stable), bytearray(), [], None
-        self.ends = []
+    def open_at(self, end):
+        """The file is opened, which ends there: what waited is lost. Where it ends inside a batch, a frame says that this was abandoned."""
+        self._cut(end)
+        if end in self.begun:
+            self._add(closing(ABANDONED_BATCH, self.begun[end]))
+            self.mark()
+
+    def reopen(self, end):
+        """The file was opened, and ends there, in no batch."""
+        self._cut(end)
+        self.ends, self.begun = [], {}
         self.mark()
+
+    def _cut(self, end):
+        self.image[end - 1 :] = b"\0"
+        self.ends = [found for found in self.ends if found[0] <= end]
+        self.begun = {found: place for found, place in self.begun.items() if found <= end}
+        self.stable = list(dict(self.ends)[end])
+        self.pending, self.events, self.batch, self.spilled = bytearray(), [], None, None
+
+
+def gates_of(content):
+    """The places of a file's gates, by the lengths of its frames. The last one is closed."""
+    at, open_ones = len(OPENING), []
+    while at < len(content) and content[at] != 0:
+        open_ones.append(at)
+        at += 9 + struct.unpack_from("<Q", content, at + 1)[0]
+    return [*open_ones, at]
 
 
 def end_of(content):
-    """The place behind the closed gate of a file, by its gates and the lengths of its frames."""
-    at = len(OPENING)
-    while at < len(content) and content[at] != 0:
-        at += 9 + struct.unpack_from("<Q", content, at + 1)[0]
-    return at + 1
+    """The place behind the closed gate of a file."""
+    return gates_of(content)[-1] + 1
 
 
 def records_of(content):
@@ -143,8 +181,7 @@ def records_of(content):
 
 def with_gates_open(content):
     """The bytes of a file in front of its closed gate, with the open gates as they are written: any byte but 0 is one."""
-    content, at = bytearray(content), len(OPENING)
-    while at < len(content):
-        content[at] = 1
-        at += 9 + struct.unpack_from("<Q", content, at + 1)[0]
+    content = bytearray(content)
+    for gate in gates_of(content)[:-1]:
+        content[gate] = 1
     return content

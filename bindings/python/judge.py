@@ -118,9 +118,9 @@ class Script:
             "interval": self.interval,
             "segment_size": self.random.choice((1, 17, 35, 100, 1000, 4096, 1 << 20)),
         }
-        if self.journal is not None:
-            self._end_of_file()
         for tried in range(100):
+            if self.journal is not None:
+                self.journal.open_at(self._end_of_file())
             self._arm(0.3 if tried < 3 else 0)
             is_there = self._is_there()
             self.was_left = os.path.exists(self.path + ".dilluvas-new")
@@ -199,7 +199,8 @@ class Script:
     def _settle(self):
         """The file is synced: what it holds is durable, and all else is lost."""
         end = self._end_of_file()
-        self.journal.reopen(end, dict(self.journal.ends)[end])
+        check(end not in self.journal.begun, "a batch is left open", end)
+        self.journal.reopen(end)
 
     # ---- A call.
 

@@ -2,7 +2,7 @@
 
 from typing import NamedTuple, Optional
 
-from journal import FREED, OF_COUNTER, OF_LINK, OF_NODE, OF_ROOTS, records_of
+from journal import ABANDONED_BATCH, BEGUN_BATCH, CLOSING, FREED, OF_COUNTER, OF_LINK, OF_NODE, OF_ROOTS, records_of
 from machine import COUNTER, MOST_MESSAGES, ROOTS, Node
 
 _PUTS, _NODES, _ROOTS, _LINKS = range(5, 10), (OF_NODE, 9), (OF_ROOTS, 7), (OF_LINK, 11)
@@ -111,15 +111,28 @@ def _set(node, key, value):
 
 
 def chains_of(content):
-    """The messages that make each page of a file: their kinds and payloads."""
-    chains = []
+    """The messages that make each page of a file: their kinds and payloads. Those of a batch count once it is closed."""
+    chains, batch = [], None
     for kind, page, at, length in records_of(content):
-        message = kind, content[at : at + length]
-        if kind in _PUTS or kind == FREED:
-            chains[page : page + 1] = [[message]]
-        elif kind in _LINKS:
-            chains[page].append(message)
+        message = kind, page, content[at : at + length]
+        if kind == BEGUN_BATCH:
+            batch = []
+        elif batch is None:
+            _take(chains, *message)
+        elif kind not in CLOSING:
+            batch.append(message)
+        else:
+            for waiting in batch if kind != ABANDONED_BATCH else ():
+                _take(chains, *waiting)
+            batch = None
     return chains
+
+
+def _take(chains, kind, page, payload):
+    if kind in _PUTS or kind == FREED:
+        chains[page : page + 1] = [[(kind, payload)]]
+    elif kind in _LINKS:
+        chains[page].append((kind, payload))
 
 
 def made_of(chain) -> Optional[Whole]:

@@ -1,4 +1,4 @@
-"""Cases, each of which a number and a seed decide. Every second one is fixed, as long as there are: long logs, and two logs damaged by
+"""Cases, each of which a number and a seed decide. Every second one is fixed, as long as there are: long logs, and three logs damaged by
 rule, each way once. The others are random.
 """
 
@@ -21,7 +21,7 @@ class Cases:
 
     def prepare(self):
         """Has the program make what will be damaged."""
-        self._fixed = list(files.long_logs())
+        self._fixed = [*files.long_logs(), *files.damaged(files.spilled())]
         for text in (files.LEAF, files.SCRIPT):
             self._fixed += files.damaged(self._program.written(text))
 
@@ -70,8 +70,8 @@ class Cases:
         pages = Pages(held or [])
         cache, writer = Cache(pages), scripts.Writer(self._random)
         asked = []
-        for _ in range(self._random.choice((3, 20, 60))):
-            asked.append(lines.line_of(*writer.next_call(pages)))
+        for call in self._calls(writer, pages):
+            asked.append(lines.line_of(*call))
             script.reply_to(cache, asked[-1])
         text = b"\n".join(asked) + b"\n"
         if may_damage and self._random.randrange(3) == 0:
@@ -81,9 +81,20 @@ class Cases:
             text += b"\nflush\n"
         return b"\n".join(line for line in text.split(b"\n") if not lines.names_page_0(line))
 
+    def _calls(self, writer, pages):
+        """Calls of a script, among which may be a batch of several frames, that is open at the end of the script or closed."""
+        for _ in range(self._random.choice((3, 20, 60))):
+            yield writer.next_call(pages)
+        if self._random.randrange(4) == 0:
+            yield "pin", ()
+            for _ in range(self._random.randrange(40)):
+                page, stamp, key, _ = writer.to_set(pages)
+                yield "set", (page, stamp, key, self._random.randbytes(1) * self._random.choice((40, 500, 3000)))
+            yield self._random.choice(("seal", "seal", "cancel", "size")), ()
+
     def _damaged(self, content):
         data, random = bytearray(content), self._random
-        at, way = random.randrange(len(data) + 1), random.randrange(9)
+        at, way = random.randrange(len(data) + 1), random.randrange(10)
         if way == 0:
             del data[at:]
         elif way == 1:
@@ -96,6 +107,8 @@ class Cases:
             data[at : at + 8] = random.choice((0, 1, 8, 255, 2**32, 2**63, files.LARGEST)).to_bytes(8, "little")
         elif way == 5 and len(files.frames_of(content)) > 1:
             return files.exchanged(content, *sorted(random.sample(files.frames_of(content), 2)))
+        elif way == 6 and files.frames_of(content):
+            data[random.choice(files.frames_of(content))[0]] = 0
         elif data:
             for _ in range(random.randint(1, 4)):
                 data[random.randrange(len(data))] ^= random.randrange(1, 256)

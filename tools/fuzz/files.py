@@ -2,7 +2,8 @@
 
 import struct
 
-from journal import OPENING, number, record, records_of, string
+from journal import ABANDONED_BATCH, BEGUN_BATCH, CANCELLED_BATCH, CLOSING, OLD_MARK, OPENING
+from journal import closing, number, record, records_of, string
 from machine import BATCH
 
 LARGEST = 2**64 - 1
@@ -17,8 +18,17 @@ SCRIPT = (
 )
 
 
+def _frame(*records):
+    """An open gate, and a frame of these records."""
+    body = b"".join(records)
+    return b"\1" + struct.pack("<Q", len(body)) + body
+
+
 # The frame of the cache's own pages.
-_OWN = b"\1" + struct.pack("<Q", 35) + record(6, 0, b"") + record(5, 1, b"\0")
+_OWN = _frame(record(6, 0, b""), record(5, 1, b"\0"))
+
+# The record that begins a batch, and a change of page 2.
+_BEGUN, _LINK = record(BEGUN_BATCH, BATCH, b""), record(10, 2, b"\0\1b\1v")
 
 # A page whose payload has 2 GiB of zeros, and one behind it: what stands in front of the zeros, how many there are, and what behind.
 _ZEROS = 1 << 31
@@ -31,15 +41,26 @@ GAP_SIZE = len(GAP[0]) + _ZEROS + len(GAP[2])
 
 
 def long_logs():
-    """Logs of 100,000 records: marks that all name the last, marks that name one the other way round, and cancelled batches."""
+    """Logs of 100,000 records: old marks that all name the last, old marks that name one the other way round, cancelled batches, and changes
+    in a batch that isn't closed."""
     count, first = 100_000, len(OPENING + _OWN) + 9
     places = range(first, first + 25 * count, 25)
     for records in (
-        record(3, BATCH, struct.pack("<Q", places[-1])) * count,
-        b"".join(record(3, BATCH, struct.pack("<Q", max(place, places[-1 - at]))) for at, place in enumerate(places)),
-        record(1, 0, b"") * count,
+        record(OLD_MARK, BATCH, struct.pack("<Q", places[-1])) * count,
+        b"".join(record(OLD_MARK, BATCH, struct.pack("<Q", max(place, places[-1 - at]))) for at, place in enumerate(places)),
+        record(CANCELLED_BATCH, 0, b"") * count,
+        _BEGUN + record(8, 2, bytes(8)) * count,
     ):
-        yield OPENING + _OWN + b"\1" + struct.pack("<Q", len(records)) + records + b"\0"
+        yield OPENING + _OWN + _frame(records) + b"\0"
+
+
+def spilled():
+    """A log of batches over several frames: one that ends, one that is cancelled, one that was abandoned, and one in which the file ends."""
+    content = OPENING + _OWN + _frame(record(8, 2, bytes(8)))
+    for kind in CLOSING:
+        begun = len(content) + 9
+        content += _frame(_BEGUN, _LINK) + _frame(record(8, 3, bytes(8)), _LINK) + _frame(closing(kind, begun))
+    return content + _frame(_BEGUN, _LINK) + b"\0"
 
 
 def frames_of(content):
@@ -78,7 +99,7 @@ def damaged(content):
             yield exchanged(content, frames[other], frames[one])
     for kind, page, at, length in records_of(content):
         if page == BATCH:
-            yield from _damaged_batch(content, at, length)
+            yield from _damaged_batch(content, kind, at, length)
 
 
 def exchanged(content, one, other):
@@ -86,14 +107,20 @@ def exchanged(content, one, other):
     return content[: one[0]] + content[slice(*other)] + content[one[1] : other[0]] + content[slice(*one)] + content[other[1] :]
 
 
-def _damaged_batch(content, at, length):
-    place = struct.unpack_from("<Q", content, at)[0]
-    for other in (0, 8, at - 18, at - 17, at - 16, place - 1, place + 1, place + 17, len(content), 2**63, LARGEST):
+def _damaged_batch(content, kind, at, length):
+    for other in sorted({BEGUN_BATCH, *CLOSING, OLD_MARK, 10} - {kind}):
+        yield put(content, at - 17, bytes([other]))
+    place = struct.unpack_from("<Q", content, at)[0] if length else 0
+    for other in (0, 8, at - 18, at - 17, at - 16, place - 1, place + 1, place + 17, len(content), 2**63, LARGEST) if length else ():
         yield _put_number(content, at, other)
     for other in (0, 1, 2, BATCH - 1, BATCH + 1, LARGEST):
         yield _put_number(content, at - 16, other)
-    for other in (0, length - 1, length + 1, 2**32, 2**63, LARGEST):
+    for other in (0, 8, length - 1, length + 1, 2**32, 2**63, LARGEST):
         yield _put_number(content, at - 8, other)
+
+
+# The kinds that have to do with batches and may stand outside one.
+_MARKS = CANCELLED_BATCH, OLD_MARK, BEGUN_BATCH, BEGUN_BATCH
 
 
 class Writer:
@@ -103,10 +130,12 @@ class Writer:
         self._random = random
         # the pages, and whether each has a content
         self._pages = []
+        # the place of the record that began the batch that is open, and the pages in front of it
+        self._begun, self._kept = None, []
 
     def file(self):
         content = OPENING
-        for _ in range(self._random.randrange(5)):
+        for _ in range(self._random.randrange(7)):
             body = self._body(len(content) + 9)
             content += self._random.choice((b"\1", b"\1", b"\xff")) + struct.pack("<Q", len(body)) + body
         return content + b"\0" + self._random.randbytes(self._random.choice((0, 0, 0, 30)))
@@ -123,19 +152,35 @@ class Writer:
     def _record(self, at):
         random = self._random
         if random.randrange(100) == 0:
-            return record(random.randrange(14), random.choice((0, 1, 2, len(self._pages), BATCH, LARGEST)), self._number())
-        kind = random.choice((8, 8, 8, 9, 10, 10, 10, 10, 10, 10, 10, 11, 4, 1, 3))
-        if kind == 3:
-            return record(3, BATCH, struct.pack("<Q", at + random.choice((0, 0, 0, 25))))
+            return record(random.randrange(16), random.choice((0, 1, 2, len(self._pages), BATCH, LARGEST)), self._number())
+        if random.randrange(100) == 0:
+            place = random.choice((0, at, self._begun or at - 17))
+            return random.choice((_BEGUN, closing(random.choice((*CLOSING, OLD_MARK)), place)))
+        kind = random.choice((8, 8, 8, 9, 10, 10, 10, 10, 10, 10, 10, 11, 4, *(_MARKS if self._begun is None else CLOSING)))
+        if kind == OLD_MARK:
+            return record(kind, BATCH, struct.pack("<Q", at + random.choice((0, 0, 0, 25))))
+        if kind == BEGUN_BATCH:
+            self._begun, self._kept = at, list(self._pages)
+            return _BEGUN
+        if kind in CLOSING and self._begun is not None:
+            return self._closing(kind)
         page = self._page(kind)
         if kind not in (1, 10, 11):
             self._pages[page : page + 1] = [kind != 4]
         return record(kind, page, self._payload(kind))
 
+    def _closing(self, kind):
+        begun, self._begun = self._begun, None
+        if kind == ABANDONED_BATCH:
+            self._pages = self._kept
+        return closing(kind, begun if self._random.randrange(40) else begun + self._random.choice((-17, 1, 17, 2**63)))
+
     def _page(self, kind):
         """A page for which a record of that kind may stand there, if there is one."""
         if kind == 1:
             return BATCH
+        if self._begun is not None and self._random.randrange(30) == 0:
+            return len(self._pages) + 1
         fit = [page for page, has in enumerate(self._pages) if page > 1 and (has or kind not in (10, 11))]
         if 4 < kind < 10 and (len(fit) < 2 or self._random.randrange(4) == 0):
             return len(self._pages)

@@ -7,7 +7,8 @@ import subprocess
 
 import lines
 import script
-from journal import OPENING
+from journal import OPENING, end_of
+from logs import abandoned
 from pages import DAMAGED, Cache, Pages, held_in, shown
 
 # So many seconds may a run take. It may have 64 MiB of addresses; Python would take longer to set that.
@@ -68,19 +69,26 @@ class Program:
 
     def _over_file(self, text, content):
         words, held = ["file", self._file], held_in(content or OPENING + b"\0")
+        opened = abandoned(content)
         if held is None:
             self.counts["files refused"] += 1
             self._gives(words, text, 1, faults=CORRUPT)
-            check(self._content() == content, "a file that is refused was written")
+            check(self._content() == opened, "a file that is refused was written")
             return
         self.counts["files opened"] += 1
         self.counts["pages damaged"] += sum(page.content is DAMAGED for page in held)
+        self.counts["abandoned batches"] += opened != content
         pages = Pages(held)
         replies = self._answers(words, text, pages)
         left = held_in(self._content())
         check(left is not None, "it leaves no log")
+        check(self._begins_with(opened), "it changes what was there")
         if replies and replies[-1].startswith(b"flushed"):
             check([shown(page) for page in left] == [shown(page) for page in pages.held], "it leaves other pages")
+
+    def _begins_with(self, content):
+        """Whether the file begins with that of these bytes, up to its closed gate."""
+        return not content or self._content().startswith(content[: end_of(content) - 1])
 
     def _answers(self, words, text, pages):
         """The replies to a script, which are the model's."""

@@ -5,15 +5,19 @@
 //! CAPACITY is that of the cache, in MiB.
 //!
 //! `library --compact DISK`: how long it takes to rewrite a file, and how much that takes before and then (`compact`).
+//!
+//! `library --batch DISK SEGMENT CHANGES`: what one batch takes (`batches`).
 
 use cache::Cached;
 use dilluvas::{Cache, FileSettings, Settings};
 use lmdb::Lmdb;
 use plain_file::PlainFile;
+use std::ffi::OsString;
 use std::path::Path;
 use std::{env, fs};
 use store::{FIRST, Pages, Store};
 
+mod batches;
 mod cache;
 mod compact;
 mod lmdb;
@@ -274,10 +278,25 @@ fn measure_away(folder: &Path) {
     );
 }
 
+fn number_of(word: &OsString) -> u64 {
+    let text = word.to_str().expect("a number is text");
+    text.parse().expect("it is a number")
+}
+
 fn main() {
     let folders: Vec<_> = env::args_os().skip(1).collect();
+    if let [batch, disk, segment_size, changes] = &folders[..]
+        && batch == "--batch"
+    {
+        let [segment_size, changes] = [segment_size, changes].map(number_of);
+        return batches::measure(
+            &Path::new(disk).join("library"),
+            segment_size as usize,
+            changes,
+        );
+    }
     let [memory, disk] = &folders[..] else {
-        panic!("usage: library MEMORY DISK, or library --compact DISK");
+        panic!("usage: library MEMORY DISK, or --compact DISK, or --batch DISK SEGMENT CHANGES");
     };
     if memory == "--compact" {
         return compact::measure(&Path::new(disk).join("library"));

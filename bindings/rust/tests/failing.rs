@@ -263,17 +263,30 @@ fn each_call_fails_in_turn() {
     assert!(ends.len() == 3 && ends.values().all(|count| *count > 20));
 }
 
-// It syncs the device, and reads it.
-#[test]
-fn each_call_of_an_opening_fails_in_turn() {
+// A device that ends inside a batch of some segments, and what it holds without that.
+fn left_in_a_batch() -> (Vec<u8>, Model) {
     let (bytes, model) = made();
+    let device = Shared::of(bytes);
+    let mut cache = open(&device);
+    let mut batch = cache.pin().unwrap();
+    for _ in 0..20 {
+        batch.allocate([("lost", [7; 60])]).unwrap();
+    }
+    drop(batch);
+    drop(cache);
+    let bytes = device.0.lock().unwrap().bytes.clone();
+    (bytes, model)
+}
+
+// Each call of an opening fails in turn, of which there are so many at least, and each time the pages are there behind it.
+fn openings_fail_in_turn((bytes, model): &(Vec<u8>, Model), least: u64) {
     for fault in FAULTS {
         for call in 1.. {
             let device = Shared::of(bytes.clone());
             device.fail_at(call, fault);
             let opened = catch_unwind(|| Cache::on_device(device.clone(), &SETTINGS).map(drop));
             if !device.has_failed() {
-                assert!(call > 2, "it syncs and reads");
+                assert!(call > least, "it makes more calls than {call}");
                 break;
             }
             match opened {
@@ -281,9 +294,29 @@ fn each_call_of_an_opening_fails_in_turn() {
                 Err(_) if fault == Fault::Panic => {}
                 other => panic!("{other:?}"),
             }
-            assert_eq!(read(&mut open(&device)).unwrap(), model);
+            assert_eq!(read(&mut open(&device)).unwrap(), *model);
         }
     }
+}
+
+// It writes the last open gate again, syncs, and reads.
+#[test]
+fn each_call_of_an_opening_fails_in_turn() {
+    openings_fail_in_turn(&made(), 3);
+}
+
+// It writes besides that the batch was abandoned, by two writes and two syncs.
+#[test]
+fn each_call_of_an_opening_that_abandons_a_batch_fails_in_turn() {
+    let left = left_in_a_batch();
+    openings_fail_in_turn(&left, 7);
+    let (bytes, model) = left;
+    let device = Shared::of(bytes.clone());
+    assert_eq!(read(&mut open(&device)).unwrap(), model);
+    let marked = device.0.lock().unwrap().bytes.clone();
+    assert!(marked.len() >= bytes.len() && marked != bytes);
+    assert_eq!(read(&mut open(&device)).unwrap(), model);
+    assert_eq!(device.0.lock().unwrap().bytes, marked, "it is marked once");
 }
 
 #[test]

@@ -9,11 +9,11 @@ use std::sync::{Arc, Mutex};
 const SETTINGS: FileSettings = FileSettings {
     cache_capacity: 256,
     idgen_persist_interval: 10,
-    segment_size: 4096,
+    segment_size: 100,
 };
 
-// In each of so many openings so many pages are added at most, each of which a flush follows.
-const OPENINGS: usize = 4;
+// In each of so many openings so many pages are added at most, each of which a flush follows, and then a batch is begun that is lost.
+const OPENINGS: usize = 3;
 const PAGES: usize = 2;
 
 // The device writes blocks of so many bytes, of which the first has the opening bytes and a gate.
@@ -107,6 +107,10 @@ fn add_pages(device: &Shared, confirmed: &mut BTreeSet<u64>) -> Result<(), Error
         let token = cache.allocate([("key", "a value of some forty bytes, more or less")])?;
         cache.flush()?;
         confirmed.insert(token.page);
+    }
+    let mut batch = cache.pin()?;
+    for _ in 0..PAGES {
+        batch.allocate([("key", "a value of a page that nobody confirms")])?;
     }
     Ok(())
 }

@@ -22,12 +22,12 @@ const KILLS: u64 = 20;
 // The variable by which this program knows that it is to be killed: the seed of its changes.
 const SEED: &str = "DILLUVAS_KILLED_SEED";
 
-// Segments are short, or longer than what is flushed at once.
+// Batches have ten segments and more, or segments are longer than what is flushed at once.
 fn settings_of(store: u64) -> FileSettings {
     FileSettings {
         cache_capacity: 1024,
         idgen_persist_interval: 3,
-        segment_size: 256 << (2 * store),
+        segment_size: 32 << (2 * store),
     }
 }
 
@@ -115,11 +115,29 @@ fn history_of(start: &Model, seed: u64, log: &[u8]) -> History {
     history
 }
 
-// Kills many processes one after another over one file: how many changes they made.
-fn changes_of_many_killed(store: u64) -> usize {
+// Where the closed gate of a file stands, by the lengths of its frames.
+fn end_of(bytes: &[u8]) -> usize {
+    let mut at = 8;
+    while bytes.get(at).is_some_and(|gate| *gate != 0) {
+        let length: [u8; 8] = bytes[at + 1..at + 9].try_into().unwrap();
+        at += 9 + u64::from_le_bytes(length) as usize;
+    }
+    at
+}
+
+// Opens the cache over a file, and tells whether that ended inside a batch: then the opening says so, by a frame of 34 bytes.
+fn opened(folder: &Folder, store: u64) -> (Cache, bool) {
+    let end = end_of(&fs::read(folder.file()).unwrap());
+    let cache = Cache::open(folder.file(), &settings_of(store)).unwrap();
+    let added = end_of(&fs::read(folder.file()).unwrap()) - end;
+    (cache, added == 34)
+}
+
+// Kills many processes one after another over one file: how many changes they made, and how many of them left it inside a batch.
+fn changes_of_many_killed(store: u64) -> (usize, usize) {
     let folder = Folder::new(&format!("killed-{store}"));
     let (mut model, mut ids) = (Model::default(), BTreeSet::new());
-    let (mut moments, mut changes) = (Seed(store), 0);
+    let (mut moments, mut changes, mut abandoned) = (Seed(store), 0, 0);
     for kill in 0..KILLS {
         let seed = store * KILLS + kill;
         // the first ones while it starts, and makes the file or opens it
@@ -132,7 +150,8 @@ fn changes_of_many_killed(store: u64) -> usize {
             assert!(model == Model::default() && history.is_empty());
             continue;
         }
-        let mut cache = Cache::open(folder.file(), &settings_of(store)).unwrap();
+        let (mut cache, is_abandoned) = opened(&folder, store);
+        abandoned += usize::from(is_abandoned);
         let found = read(&mut cache).unwrap();
         let is_kept = is_permitted(&model, &history, &found);
         let told = format!("seed {seed}, {} changes", history.len());
@@ -145,7 +164,7 @@ fn changes_of_many_killed(store: u64) -> usize {
         changes += history.len();
         model = found;
     }
-    changes
+    (changes, abandoned)
 }
 
 #[test]
@@ -153,9 +172,12 @@ fn what_was_flushed_survives_each_kill() {
     if let Ok(seed) = env::var(SEED) {
         return change_until_killed(seed.parse().unwrap());
     }
-    let changes: usize = (0..STORES).map(changes_of_many_killed).sum();
-    println!("{} kills, {changes} changes", STORES * KILLS);
-    assert!(changes > (STORES * KILLS) as usize);
+    let stores: Vec<_> = (0..STORES).map(changes_of_many_killed).collect();
+    let changes: usize = stores.iter().map(|store| store.0).sum();
+    let abandoned: usize = stores.iter().map(|store| store.1).sum();
+    let kills = STORES * KILLS;
+    println!("{kills} kills, {changes} changes, {abandoned} files left inside a batch");
+    assert!(changes as u64 > kills && abandoned > 0);
 }
 
 #[test]

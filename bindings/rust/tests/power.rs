@@ -121,6 +121,10 @@ impl Device for Shared {
     }
 }
 
+// How many rounds are made, each of which changes so many keys in a batch of ten segments and more.
+const ROUNDS: u8 = 3;
+const KEYS: u8 = 40;
+
 // What a run has been promised: the last round that was flushed, and the last id.
 #[derive(Default)]
 struct Promised {
@@ -128,12 +132,12 @@ struct Promised {
     id: Option<u64>,
 }
 
-// Rounds of a batch of four changes of the first page, a flush and an id.
+// Rounds of a batch of changes of the first page, a flush and an id.
 fn run(cache: &mut Cache, promised: &mut Promised) -> Result<(), Error> {
     let mut token = cache.allocate(NO_PAIRS)?;
-    for round in 1..=6 {
+    for round in 1..=ROUNDS {
         let mut batch = cache.pin()?;
-        for key in 0..4u8 {
+        for key in 0..KEYS {
             let Swap::Done(next) = batch.set(token, [key], [round; 30])? else {
                 unreachable!("no other call changed the page")
             };
@@ -154,7 +158,7 @@ fn keeps(left: Vec<u8>, promised: &Promised) -> bool {
         return false;
     };
     let mut rounds = Vec::new();
-    for key in 0..4u8 {
+    for key in 0..KEYS {
         let mut value = Vec::new();
         match cache.value_into(2, [key], &mut value) {
             Ok(Some(_)) => rounds.push(value[0]),
@@ -162,8 +166,8 @@ fn keeps(left: Vec<u8>, promised: &Promised) -> bool {
             Err(_) => return false,
         }
     }
-    let whole =
-        rounds.is_empty() || rounds.len() == 4 && rounds.iter().all(|round| *round == rounds[0]);
+    let whole = rounds.is_empty()
+        || rounds.len() == KEYS.into() && rounds.iter().all(|round| *round == rounds[0]);
     let round = rounds.first().copied().unwrap_or(0);
     let kept = round == promised.round || round == promised.round + 1;
     whole && kept && cache.generate_id().is_ok_and(|id| Some(id) > promised.id)

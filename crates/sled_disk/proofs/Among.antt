@@ -1,89 +1,44 @@
--- A place among records, and the messages from there on.
+-- A place among records, and those from there on.
 use Rattle.std.proofs.Common.{◌≡◌, ◌⊎◌, inl, inr, ⊎_elim, ℕ, ◌+◌, ◌-◌, ◌≤◌, ◌<◌, Bool, true, false, List, [], ◌∷◌, ◌++◌, length, take, drop, refl, ap, sym, ◌∙◌, subst, append_assoc, arith}
 use Rattle.std.specs.Prelude.{get_or, nat_le, ◌==◌, ◌&&◌, ◌||◌}
 use Rattle.std.specs.List.{AllByRecursion}
 use Rattle.std.proofs.lemmas.Bool.{le-leb, lt-leb, eqb-true, eq-eqb}
 use Rattle.std.proofs.lemmas.List.{drop_at, drop-take, take-take, get_or-take, length-append, append-nil}
 use Rattle.std.proofs.lemmas.List.Elements.{filter-append}
-use Rattle.sled_base.specs.Kinds.{kind_of, log_kind_of}
-use Rattle.sled_base.specs.declared.kinds.LogKind.{LogKind}
-use Rattle.sled_base.specs.declared.kinds.LogKind.TheVariants as effects
-use Rattle.sled_log.specs.Events.{Event, Change, Pin, Seal, Cancel}
-use Rattle.sled_log.specs.Messages.{Entry}
 use Rattle.sled_disk.specs.declared.reading.RawHead.{RawHead}
 use Rattle.sled_disk.specs.Cursor.{is_between, is_among, IsFront}
 use Rattle.sled_disk.specs.EncodingLaws.{number-at_front, number_bytes-length, drop-number}
-use Rattle.sled_disk.specs.Format.{Record, Frame, Fits, IsFrame, size, number, number_bytes, record_bytes, body, frame_bytes, frames_bytes, event_by, event_at, events_at, frames_events, entry_at}
+use Rattle.sled_disk.specs.Counting.{placed, all_placed, placed_from}
+use Rattle.sled_disk.specs.Format.{Record, Frame, Fits, IsFrame, size, number, number_bytes, record_bytes, body, frame_bytes, frames_bytes}
 use Rattle.sled_disk.specs.MeaningLaws.{gate_after, gate_after-is, record_bytes-length}
-use Rattle.sled_disk.specs.Names.{offset_in, messages_in, from_place, named_by}
 
--- ---- messages
+-- ---- records by their places
 
-pub messages-append : (xs ys : List (Event Entry)) → messages_in (xs ++ ys) ≡ messages_in xs ++ messages_in ys
-messages-append [] ys = refl
-messages-append (Change id entry ∷ xs) ys = ap (λ (l : List (ℕ × ℕ)). (id, offset_in entry.place.pointer) ∷ l) (messages-append xs ys)
-messages-append (Pin ∷ xs) ys = messages-append xs ys
-messages-append (Seal ∷ xs) ys = messages-append xs ys
-messages-append (Cancel ∷ xs) ys = messages-append xs ys
+pub from-append : (at : ℕ) (xs ys : List (ℕ × Record)) → placed_from at (xs ++ ys) ≡ placed_from at xs ++ placed_from at ys
+from-append at xs ys = filter-append (λ x. nat_le at x.0) xs ys
 
-pub from-append : (at : ℕ) (xs ys : List (ℕ × ℕ)) → from_place at (xs ++ ys) ≡ from_place at xs ++ from_place at ys
-from-append at xs ys = filter-append (λ message. nat_le at message.1) xs ys
+one-kept : (at place : ℕ) (r : Record) → at ≤ place → placed_from at ((place, r) ∷ []) ≡ (place, r) ∷ []
+one-kept at place r le = rw (le-leb at place le) refl
 
-by-kind : (kind : LogKind) (place : ℕ) (r : Record) → messages_in (event_by entry_at kind place r) ≡ named_by kind r.id place
-by-kind effects.Replace place r = refl
-by-kind effects.Free place r = refl
-by-kind effects.Link place r = refl
-by-kind effects.Skip place r = refl
-by-kind effects.Corrupted place r = refl
-
--- the messages of records are that of the first and those of the others
-pub messages-first : (place : ℕ) (r : Record) (rs : List Record) → messages_in (events_at entry_at place (r ∷ rs)) ≡ named_by (log_kind_of (kind_of r.kind)) r.id place ++ messages_in (events_at entry_at (place + size r) rs)
-messages-first place r rs =
-    messages-append (event_at entry_at place r) (events_at entry_at (place + size r) rs)
-    ∙ ap (λ (l : List (ℕ × ℕ)). l ++ messages_in (events_at entry_at (place + size r) rs)) (by-kind (log_kind_of (kind_of r.kind)) place r)
-
-one-kept : (at id place : ℕ) → at ≤ place → from_place at ((id, place) ∷ []) ≡ (id, place) ∷ []
-one-kept at id place le = rw (le-leb at place le) refl
-
-one-dropped : (at id place : ℕ) → place < at → from_place at ((id, place) ∷ []) ≡ []
-one-dropped at id place lt = rw (lt-leb at place lt) refl
-
-pub named-kept : (kind : LogKind) (id at place : ℕ) → at ≤ place → from_place at (named_by kind id place) ≡ named_by kind id place
-named-kept effects.Replace id at place le = one-kept at id place le
-named-kept effects.Free id at place le = one-kept at id place le
-named-kept effects.Link id at place le = one-kept at id place le
-named-kept effects.Skip id at place le = refl
-named-kept effects.Corrupted id at place le = refl
-
-pub named-dropped : (kind : LogKind) (id at place : ℕ) → place < at → from_place at (named_by kind id place) ≡ []
-named-dropped effects.Replace id at place lt = one-dropped at id place lt
-named-dropped effects.Free id at place lt = one-dropped at id place lt
-named-dropped effects.Link id at place lt = one-dropped at id place lt
-named-dropped effects.Skip id at place lt = refl
-named-dropped effects.Corrupted id at place lt = refl
+one-dropped : (at place : ℕ) (r : Record) → place < at → placed_from at ((place, r) ∷ []) ≡ []
+one-dropped at place r lt = rw (lt-leb at place lt) refl
 
 -- all of them stand at the place of the first or behind it
-pub records-kept : (place : ℕ) (rs : List Record) (at : ℕ) → at ≤ place → from_place at (messages_in (events_at entry_at place rs)) ≡ messages_in (events_at entry_at place rs)
+pub records-kept : (place : ℕ) (rs : List Record) (at : ℕ) → at ≤ place → placed_from at (placed place rs) ≡ placed place rs
 records-kept place [] at le = refl
 records-kept place (r ∷ rs) at le =
-    let kind = log_kind_of (kind_of r.kind) in
-    let others = messages_in (events_at entry_at (place + size r) rs) in
-    let first = messages-first place r rs in
-    ap (from_place at) first ∙ from-append at (named_by kind r.id place) others
-    ∙ ap (λ (l : List (ℕ × ℕ)). l ++ from_place at others) (named-kept kind r.id at place le)
-    ∙ ap (λ (l : List (ℕ × ℕ)). named_by kind r.id place ++ l) (records-kept (place + size r) rs at (omega (arith, le)))
-    ∙ sym first
+    from-append at ((place, r) ∷ []) (placed (place + size r) rs)
+    ∙ ap (λ (l : List (ℕ × Record)). l ++ placed_from at (placed (place + size r) rs)) (one-kept at place r le)
+    ∙ ap (λ (l : List (ℕ × Record)). (place, r) ∷ l) (records-kept (place + size r) rs at (omega (arith, le)))
 
 -- and before the end of the last
-pub records-dropped : (place : ℕ) (rs : List Record) (at : ℕ) → place + length (body rs) ≤ at → from_place at (messages_in (events_at entry_at place rs)) ≡ []
+pub records-dropped : (place : ℕ) (rs : List Record) (at : ℕ) → place + length (body rs) ≤ at → placed_from at (placed place rs) ≡ []
 records-dropped place [] at le = refl
 records-dropped place (r ∷ rs) at le =
-    let kind = log_kind_of (kind_of r.kind) in
-    let others = messages_in (events_at entry_at (place + size r) rs) in
     let long = length-append (record_bytes r) (body rs) in
     let here = record_bytes-length r in
-    ap (from_place at) (messages-first place r rs) ∙ from-append at (named_by kind r.id place) others
-    ∙ ap (λ (l : List (ℕ × ℕ)). l ++ from_place at others) (named-dropped kind r.id at place (omega (arith, le, long, here)))
+    from-append at ((place, r) ∷ []) (placed (place + size r) rs)
+    ∙ ap (λ (l : List (ℕ × Record)). l ++ placed_from at (placed (place + size r) rs)) (one-dropped at place r (omega (arith, le, long, here)))
     ∙ records-dropped (place + size r) rs at (omega (arith, le, long, here))
 
 -- ---- a place among records
@@ -165,7 +120,7 @@ between-more place [] r at is = inl is
 between-more place (first ∷ rs) r at (inl is) = inl is
 between-more place (first ∷ rs) r at (inr b) = inr (between-more (place + size first) rs r at b)
 
--- The record that stands there: its bytes, which lie `shift` bytes before their places, and the messages from there on.
+-- The record that stands there: its bytes, which lie `shift` bytes before their places, and the records from there on.
 pub record Here (bytes : List ℕ) (shift place : ℕ) (rs : List Record) (at : ℕ) : Type 0 where
   pub it : Record
   pub rest : List ℕ
@@ -173,13 +128,17 @@ pub record Here (bytes : List ℕ) (shift place : ℕ) (rs : List Record) (at : 
   pub fits : Fits it
   pub next : Between place rs (at + size it)
   pub within : at + size it ≤ place + length (body rs)
-  pub messages : from_place at (messages_in (events_at entry_at place rs)) ≡ named_by (log_kind_of (kind_of it.kind)) it.id at ++ from_place (at + size it) (messages_in (events_at entry_at place rs))
+  pub records : placed_from at (placed place rs) ≡ (at, it) ∷ placed_from (at + size it) (placed place rs)
+
+-- those behind the first
+from-behind : (place : ℕ) (r : Record) (rs : List Record) (n : ℕ) → place + size r ≤ n → placed_from n (placed place (r ∷ rs)) ≡ placed_from n (placed (place + size r) rs)
+from-behind place r rs n le =
+    from-append n ((place, r) ∷ []) (placed (place + size r) rs)
+    ∙ ap (λ (l : List (ℕ × Record)). l ++ placed_from n (placed (place + size r) rs)) (one-dropped n place r (omega (arith, le)))
 
 pub here : (bytes front : List ℕ) (shift place : ℕ) (rs : List Record) (behind : List ℕ) (at : ℕ) → AllByRecursion Fits rs → bytes ≡ front ++ (body rs ++ behind) → length front + shift ≡ place → Between place rs at → at < place + length (body rs) → Here bytes shift place rs at
 here bytes front shift place [] behind at fits is long between lt = absurd (omega (arith, between, lt))
 here bytes front shift place (r ∷ rs) behind at fits is long (inl same) lt =
-    let kind = log_kind_of (kind_of r.kind) in
-    let others = messages_in (events_at entry_at (place + size r) rs) in
     let bytes_are : bytes ≡ front ++ (record_bytes r ++ (body rs ++ behind)) = is ∙ ap (λ (l : List ℕ). front ++ l) (append_assoc (record_bytes r) (body rs) behind) in
     let total = length-append (record_bytes r) (body rs) in
     let one = record_bytes-length r in
@@ -190,28 +149,17 @@ here bytes front shift place (r ∷ rs) behind at fits is long (inl same) lt =
       fits = fits.0;
       next = inr (between-first (place + size r) rs);
       within = omega (arith, total, one);
-      messages =
-          ap (from_place place) (messages-first place r rs) ∙ from-append place (named_by kind r.id place) others
-          ∙ ap (λ (l : List (ℕ × ℕ)). l ++ from_place place others) (named-kept kind r.id place place (omega arith))
-          ∙ ap (λ (l : List (ℕ × ℕ)). named_by kind r.id place ++ l)
-          (records-kept (place + size r) rs place (omega arith)
-          ∙ sym (records-kept (place + size r) rs (place + size r) (omega arith))
-          ∙ sym (ap (λ (l : List (ℕ × ℕ)). l ++ from_place (place + size r) others) (named-dropped kind r.id (place + size r) place (omega arith)))
-          ∙ sym (from-append (place + size r) (named_by kind r.id place) others)
-          ∙ sym (ap (from_place (place + size r)) (messages-first place r rs)));
+      records =
+          records-kept place (r ∷ rs) place (omega arith)
+          ∙ ap (λ (l : List (ℕ × Record)). (place, r) ∷ l) (sym (from-behind place r rs (place + size r) (omega arith) ∙ records-kept (place + size r) rs (place + size r) (omega arith)));
     })
 here bytes front shift place (r ∷ rs) behind at fits is long (inr between) lt =
-    let kind = log_kind_of (kind_of r.kind) in
-    let others = messages_in (events_at entry_at (place + size r) rs) in
     let total = length-append (record_bytes r) (body rs) in
     let one = record_bytes-length r in
     let parts : bytes ≡ (front ++ record_bytes r) ++ (body rs ++ behind) =
     is ∙ ap (λ (l : List ℕ). front ++ l) (append_assoc (record_bytes r) (body rs) behind) ∙ sym (append_assoc front (record_bytes r) (body rs ++ behind)) in
     let h = here bytes (front ++ record_bytes r) shift (place + size r) rs behind at fits.1 parts (omega (arith, long, one, length-append front (record_bytes r))) between (omega (arith, lt, total, one)) in
     let least = between-least (place + size r) rs at between in
-    let all : (n : ℕ) → place + size r ≤ n → from_place n (messages_in (events_at entry_at place (r ∷ rs))) ≡ from_place n others = λ n le.
-    ap (from_place n) (messages-first place r rs) ∙ from-append n (named_by kind r.id place) others
-    ∙ ap (λ (l : List (ℕ × ℕ)). l ++ from_place n others) (named-dropped kind r.id n place (omega (arith, le))) in
     let within = h.within in
     record {
       it = h.it;
@@ -220,7 +168,7 @@ here bytes front shift place (r ∷ rs) behind at fits is long (inr between) lt 
       fits = h.fits;
       next = inr h.next;
       within = omega (arith, within, total, one);
-      messages = all at least ∙ h.messages ∙ ap (λ (l : List (ℕ × ℕ)). named_by (log_kind_of (kind_of h.it.kind)) h.it.id at ++ l) (sym (all (at + size h.it) (omega (arith, least))));
+      records = from-behind place r rs at least ∙ h.records ∙ ap (λ (l : List (ℕ × Record)). (at, h.it) ∷ l) (sym (from-behind place r rs (at + size h.it) (omega (arith, least))));
     }
 
 -- what the first bytes of a record say
@@ -244,30 +192,17 @@ front-taken bytes front raw len is f = record {
 
 -- ---- a place among frames
 
--- the messages of frames, the first gate of which stands at a place, and of the records that are pending behind them
-abbrev pub messages_behind : ℕ → List Frame → List Record → List (ℕ × ℕ)
-messages_behind first frames pending = messages_in (frames_events entry_at first frames ++ events_at entry_at (gate_after first frames + 9) pending)
-
 abbrev pub end_of : ℕ → Frame → ℕ
 end_of gate frame = gate + (9 + length (body frame.records))
 
-pub messages-frame : (first : ℕ) (frame : Frame) (frames : List Frame) (pending : List Record) → messages_behind first (frame ∷ frames) pending ≡ messages_in (events_at entry_at (first + 9) frame.records) ++ messages_behind (end_of first frame) frames pending
-messages-frame first frame frames pending =
-    let here = events_at entry_at (first + 9) frame.records in
-    let others = frames_events entry_at (end_of first frame) frames in
-    let last = events_at entry_at (gate_after (end_of first frame) frames + 9) pending in
-    ap messages_in (append_assoc here others last) ∙ messages-append here (others ++ last)
-
-pub frames-kept : (first : ℕ) (frames : List Frame) (pending : List Record) (at : ℕ) → at ≤ first + 9 → from_place at (messages_behind first frames pending) ≡ messages_behind first frames pending
+pub frames-kept : (first : ℕ) (frames : List Frame) (pending : List Record) (at : ℕ) → at ≤ first + 9 → placed_from at (all_placed first frames pending) ≡ all_placed first frames pending
 frames-kept first [] pending at le = records-kept (first + 9) pending at le
 frames-kept first (frame ∷ frames) pending at le =
-    let here = messages_in (events_at entry_at (first + 9) frame.records) in
-    let others = messages_behind (end_of first frame) frames pending in
-    let parts = messages-frame first frame frames pending in
-    ap (from_place at) parts ∙ from-append at here others
-    ∙ ap (λ (l : List (ℕ × ℕ)). l ++ from_place at others) (records-kept (first + 9) frame.records at le)
-    ∙ ap (λ (l : List (ℕ × ℕ)). here ++ l) (frames-kept (end_of first frame) frames pending at (omega (arith, le)))
-    ∙ sym parts
+    let here = placed (first + 9) frame.records in
+    let others = all_placed (end_of first frame) frames pending in
+    from-append at here others
+    ∙ ap (λ (l : List (ℕ × Record)). l ++ placed_from at others) (records-kept (first + 9) frame.records at le)
+    ∙ ap (λ (l : List (ℕ × Record)). here ++ l) (frames-kept (end_of first frame) frames pending at (omega (arith, le)))
 
 pub stands-least : (first : ℕ) (frames : List Frame) (pending : List Record) (gate at : ℕ) → StandsIn first frames pending gate at → first ≤ gate
 stands-least first [] pending gate at (is, b) = omega (arith, is)
@@ -301,15 +236,15 @@ pub record IsDurable (bytes : List ℕ) (first : ℕ) (frames : List Frame) (pen
   pub next : StandsIn first frames pending (gate + (9 + length (body records))) (gate + (9 + length (body records)) + 9)
   pub ends : gate + (9 + length (body records)) ≤ gate_after first frames
 
--- the records of its frame, and the messages before and behind them
+-- the records of its frame, and those before and behind them
 pub record InFrame (bytes : List ℕ) (first : ℕ) (frames : List Frame) (pending : List Record) (gate at : ℕ) : Type 0 where
   pub records : List Record
   pub place : Between (gate + 9) records at
-  pub before : List (ℕ × ℕ)
-  pub behind : List (ℕ × ℕ)
-  pub messages : messages_behind first frames pending ≡ before ++ (messages_in (events_at entry_at (gate + 9) records) ++ behind)
-  pub before_dropped : (n : ℕ) → gate + 9 ≤ n → from_place n before ≡ []
-  pub behind_kept : (n : ℕ) → n ≤ gate + (9 + length (body records)) + 9 → from_place n behind ≡ behind
+  pub before : List (ℕ × Record)
+  pub behind : List (ℕ × Record)
+  pub parts : all_placed first frames pending ≡ before ++ (placed (gate + 9) records ++ behind)
+  pub before_dropped : (n : ℕ) → gate + 9 ≤ n → placed_from n before ≡ []
+  pub behind_kept : (n : ℕ) → n ≤ gate + (9 + length (body records)) + 9 → placed_from n behind ≡ behind
   pub again : (n : ℕ) → Between (gate + 9) records n → StandsIn first frames pending gate n
   pub either : IsDurable bytes first frames pending gate records ⊎ ((gate ≡ gate_after first frames) × (records ≡ pending) × (behind ≡ []))
 
@@ -323,7 +258,7 @@ in-frame bytes front first [] pending behind gate at each is long (same, between
       place = between;
       before = [];
       behind = [];
-      messages = sym (append-nil (messages_in (events_at entry_at (first + 9) pending)));
+      parts = sym (append-nil (placed (first + 9) pending));
       before_dropped = λ n le. refl;
       behind_kept = λ n le. refl;
       again = λ n b. (refl, b);
@@ -342,8 +277,8 @@ in-frame bytes front first (frame ∷ frames) pending behind gate at each is lon
       records = frame.records;
       place = between;
       before = [];
-      behind = messages_behind next frames pending;
-      messages = messages-frame first frame frames pending;
+      behind = all_placed next frames pending;
+      parts = refl;
       before_dropped = λ n le. refl;
       behind_kept = λ n le. frames-kept next frames pending n (omega (arith, le));
       again = λ n b. inl (refl, b);
@@ -361,7 +296,7 @@ in-frame bytes front first (frame ∷ frames) pending behind gate at each is lon
     })
 in-frame bytes front first (frame ∷ frames) pending behind gate at each is long (inr stands) =
     let next = end_of first frame in
-    let here = messages_in (events_at entry_at (first + 9) frame.records) in
+    let here = placed (first + 9) frame.records in
     let others = frames_bytes frames ++ behind in
     let parts : bytes ≡ (front ++ frame_bytes frame) ++ others = is ∙ ap (λ (l : List ℕ). front ++ l) (append_assoc (frame_bytes frame) (frames_bytes frames) behind) ∙ sym (append_assoc front (frame_bytes frame) others) in
     let total = length-append (number_bytes (length (body frame.records))) (body frame.records) in
@@ -372,17 +307,17 @@ in-frame bytes front first (frame ∷ frames) pending behind gate at each is lon
       place = f.place;
       before = here ++ f.before;
       behind = f.behind;
-      messages = messages-frame first frame frames pending ∙ ap (λ (l : List (ℕ × ℕ)). here ++ l) f.messages ∙ sym (append_assoc here f.before (messages_in (events_at entry_at (gate + 9) f.records) ++ f.behind));
-      before_dropped = λ n le. from-append n here f.before ∙ ap (λ (l : List (ℕ × ℕ)). l ++ from_place n f.before) (records-dropped (first + 9) frame.records n (omega (arith, le, least))) ∙ f.before_dropped n le;
+      parts = ap (λ (l : List (ℕ × Record)). here ++ l) f.parts ∙ sym (append_assoc here f.before (placed (gate + 9) f.records ++ f.behind));
+      before_dropped = λ n le. from-append n here f.before ∙ ap (λ (l : List (ℕ × Record)). l ++ placed_from n f.before) (records-dropped (first + 9) frame.records n (omega (arith, le, least))) ∙ f.before_dropped n le;
       behind_kept = f.behind_kept;
       again = λ n b. inr (f.again n b);
       either = ⊎_elim (λ d. inl (record { front = d.front; behind = d.behind; is = d.is; long = d.long; fits = d.fits; len = d.len; next = inr d.next; ends = d.ends })) (λ p. inr p) f.either;
     }
 
--- the messages from a place in the frame on
+-- the records from a place in the frame on
 pub from-inside : (bytes : List ℕ) (first : ℕ) (frames : List Frame) (pending : List Record) (gate at : ℕ) (f : InFrame bytes first frames pending gate at) (n : ℕ) → gate + 9 ≤ n → n ≤ gate + (9 + length (body f.records)) + 9
-    → from_place n (messages_behind first frames pending) ≡ from_place n (messages_in (events_at entry_at (gate + 9) f.records)) ++ f.behind
+    → placed_from n (all_placed first frames pending) ≡ placed_from n (placed (gate + 9) f.records) ++ f.behind
 from-inside bytes first frames pending gate at f n least most =
-    let inside = messages_in (events_at entry_at (gate + 9) f.records) in
-    ap (from_place n) f.messages ∙ from-append n f.before (inside ++ f.behind) ∙ ap (λ (l : List (ℕ × ℕ)). l ++ from_place n (inside ++ f.behind)) (f.before_dropped n least)
-    ∙ from-append n inside f.behind ∙ ap (λ (l : List (ℕ × ℕ)). from_place n inside ++ l) (f.behind_kept n most)
+    let inside = placed (gate + 9) f.records in
+    ap (placed_from n) f.parts ∙ from-append n f.before (inside ++ f.behind) ∙ ap (λ (l : List (ℕ × Record)). l ++ placed_from n (inside ++ f.behind)) (f.before_dropped n least)
+    ∙ from-append n inside f.behind ∙ ap (λ (l : List (ℕ × Record)). placed_from n inside ++ l) (f.behind_kept n most)

@@ -1,34 +1,28 @@
 -- A message of a page by its place, in the file or in the buffer.
-use Rattle.std.proofs.Common.{◌≡◌, ◌⊎◌, inl, inr, ⊎_elim, ℕ, zero, suc, ◌+◌, ◌-◌, ◌≤◌, ◌<◌, Bool, List, [], ◌∷◌, ◌++◌, length, map, take, drop, get_or, slice_index_or, refl, ap, sym, ◌∙◌, subst, append_assoc, arith}
-use Rattle.std.specs.Prelude.{Some, ℤ}
-use Rattle.std.specs.List.{All, Any, AllByRecursion}
+use Rattle.std.proofs.Common.{◌≡◌, ◌⊎◌, inl, inr, ⊎_elim, ℕ, zero, suc, ◌+◌, ◌-◌, ◌≤◌, ◌<◌, Bool, true, List, [], ◌∷◌, ◌++◌, length, map, take, drop, get_or, slice_index_or, refl, ap, sym, ◌∙◌, subst, append_assoc, arith}
+use Rattle.std.specs.Prelude.{Option, Some, ℤ}
+use Rattle.std.specs.List.{All, Any, AllByRecursion, list_all}
 use Rattle.std.proofs.Math.ListN.{get_or-map}
 use Rattle.std.proofs.lemmas.List.{take_at, drop_at, drop-take, take-take, drop-drop, take-append-le, take-append-drop, length-append, length-take, append-nil}
 use Rattle.std.proofs.lemmas.List.Elements.{All-from_recursion}
-use Rattle.sled_base.specs.Kinds.{kind_of, log_kind_of}
-use Rattle.sled_base.specs.declared.kinds.LogKind.{LogKind}
-use Rattle.sled_base.specs.declared.kinds.LogKind.TheVariants as effects
+use Rattle.sled_base.specs.Kinds.{kind_of}
 use Rattle.sled_base.specs.declared.kinds.MessageKind.{MessageKind}
 use Rattle.sled_base.specs.declared.types.DiskPtr.{DiskPtr}
 use Rattle.sled_base.specs.declared.types.DiskPtr.TheVariants.{Inline}
-use Rattle.sled_log.proofs.ChainLaws.{all-append, all-get, Says, AllIn, chains-all}
-use Rattle.sled_log.specs.Events.{Event, Change, Pin, Seal, Cancel}
-use Rattle.sled_log.specs.Inside.Laws.{chains_after-append}
+use Rattle.sled_log.proofs.ChainLaws.{all-get, AllIn}
 use Rattle.sled_log.specs.LogState.{now}
 use Rattle.sled_log.specs.Messages.{Entry, Chain, effect_of_entry}
 use Rattle.sled_log.specs.Pages.{IsAt, IsReadAs}
 use Rattle.sled_disk.specs.declared.head.Head.{Head}
-use Rattle.sled_disk.specs.declared.mark.Mark.{Mark}
-use Rattle.sled_disk.specs.Format.{opening, Record, size, body, number, frames_bytes, event_by, event_at, events_at, frames_events, IsBytes}
+use Rattle.sled_disk.specs.Format.{opening, Record, size, body, number, frames_bytes, IsBytes}
 use Rattle.sled_disk.specs.Found.{IsHeadOf}
-use Rattle.sled_disk.specs.MeaningLaws.{heads_after}
 use Rattle.sled_disk.specs.Opened.{EndsBy, IsWrittenIn}
-use Rattle.sled_disk.specs.Pending.{count, state_in}
-use Rattle.sled_disk.specs.Reading.{records_of, head_at, effect_of_head, entry_in}
+use Rattle.sled_disk.specs.Pending.{is_own, state_in}
+use Rattle.sled_disk.specs.Reading.{start, records_of, effect_of_head, entry_in}
 use Rattle.sled_disk.specs.Standing.{Stands, records_behind}
-use Rattle.sled_disk.specs.StandingLaws.{Parsed, parsed, before-is, records-good, ends-at, place-is, heads-stand}
-use Rattle.sled_disk.proofs.Adding.{now-is}
-use Rattle.sled_disk.proofs.Placed.{frames-written, events-written, entries-read}
+use Rattle.sled_disk.specs.StandingLaws.{Parsed, parsed, ends-at, place-is, heads-stand}
+use Rattle.sled_disk.proofs.Each.{Heads, FrameHeads, steps-kept, frames-kept, now-kept, frames-so}
+use Rattle.sled_disk.proofs.Placed.{frames-written, records-written, entries-read}
 use Rattle.sled_disk.proofs.Shown.{frames-end}
 use Rattle.sled_disk.proofs.Waiting.{waits}
 
@@ -36,31 +30,9 @@ use Rattle.sled_disk.proofs.Waiting.{waits}
 abbrev pub Side : ℕ → Head → Type 0
 Side gate head = (head.place + (17 + head.len) ≤ gate) ⊎ (gate + 9 ≤ head.place)
 
-abbrev Sides : ℕ → List (Event Head) → Type 0
-Sides gate events = AllByRecursion (Says effect_of_head (Side gate)) events
-
-event-side : (gate : ℕ) (kind : LogKind) (place : ℕ) (r : Record) → (place + size r ≤ gate) ⊎ (gate + 9 ≤ place) → Sides gate (event_by head_at kind place r)
-event-side gate effects.Replace place r h = (h, tt)
-event-side gate effects.Free place r h = (h, tt)
-event-side gate effects.Link place r h = (h, tt)
-event-side gate effects.Skip place r h = tt
-event-side gate effects.Corrupted place r h = tt
-
-events-behind : (gate place : ℕ) (rs : List Record) → gate + 9 ≤ place → Sides gate (events_at head_at place rs)
-events-behind gate place [] le = tt
-events-behind gate place (r ∷ rs) le =
-    all-append (Says effect_of_head (Side gate)) (event_at head_at place r) (events_at head_at (place + size r) rs)
-    (event-side gate (log_kind_of (kind_of r.kind)) place r (inr le)) (events-behind gate (place + size r) rs (omega (arith, le)))
-
-ends-side : (gate : ℕ) (events : List (Event Head)) → AllByRecursion (Says effect_of_head (EndsBy gate)) events → Sides gate events
-ends-side gate [] h = tt
-ends-side gate (event ∷ events) h = (by event h.0, ends-side gate events h.1)
-  where
-    by : (event : Event Head) → Says effect_of_head (EndsBy gate) event → Says effect_of_head (Side gate) event
-    by (Change id head) h = inl h
-    by Pin h = tt
-    by Seal h = tt
-    by Cancel h = tt
+records-behind : (gate place : ℕ) (rs : List Record) → gate + 9 ≤ place → Heads (Side gate) place rs
+records-behind gate place [] le = tt
+records-behind gate place (r ∷ rs) le = (inr le, records-behind gate (place + size r) rs (omega (arith, le)))
 
 -- one of some of which P holds
 pub all-at : {X : Type 0} (P : X → Type 0) (xs : List X) (i : ℕ) (d : X) → i < length xs → AllByRecursion P xs → P (get_or xs i d)
@@ -75,13 +47,13 @@ known-head bytes [] lsn pointer d k x lt is at = absurd (omega (arith, lt))
 known-head bytes (head ∷ chain) lsn pointer d zero x lt is at = (0, omega arith, sym at.1 ∙ sym (ap (λ (e : Entry). e.place.pointer) is))
 known-head bytes (head ∷ chain) lsn pointer d (suc k) x lt is at = let h = known-head bytes chain lsn pointer d k x (omega (arith, lt)) is at in let below = h.1 in (suc h.0, omega (arith, below), h.2)
 
-module _ (seen : List ℕ) (gate : ℕ) (ms : List Mark) (buffer : List ℕ) (usable : Bool) (heads : List (List Head)) (fits : IsBytes seen) (s : Stands seen gate (records_behind buffer) heads)
-    (are : IsBytes buffer) (front : 8 ≤ length buffer) (read : records_of (drop 8 buffer) ≡ Some (records_behind buffer)) (counted : count ms ≡ length (records_behind buffer)) where
+module _ (seen : List ℕ) (gate : ℕ) (spilled : Bool) (buffer : List ℕ) (usable : Bool) (batch : Option ℕ) (heads : List (List Head)) (fits : IsBytes seen) (s : Stands seen gate spilled (records_behind buffer) batch heads)
+    (are : IsBytes buffer) (front : 8 ≤ length buffer) (read : records_of (drop 8 buffer) ≡ Some (records_behind buffer)) (own : list_all is_own (records_behind buffer) ≡ true) where
   abbrev rs : List Record
   rs = records_behind buffer
 
-  abbrev p : Parsed seen gate rs heads
-  p = parsed seen gate rs heads fits s
+  abbrev p : Parsed seen gate spilled rs batch heads
+  p = parsed seen gate spilled rs batch heads fits s
 
   abbrev file : List ℕ
   file = opening ++ frames_bytes p.frames
@@ -96,7 +68,7 @@ module _ (seen : List ℕ) (gate : ℕ) (ms : List Mark) (buffer : List ℕ) (us
   first-is : take (gate + 1) seen ≡ file ++ 0 ∷ []
   first-is =
       ap (take (gate + 1)) (p.is ∙ sym (append_assoc opening (frames_bytes p.frames) (0 ∷ p.rest)) ∙ sym (append_assoc file (0 ∷ []) p.rest))
-      ∙ take_at (file ++ 0 ∷ []) p.rest (gate + 1) (let l = place-is seen gate rs heads p in omega (arith, l, length-append file (0 ∷ [])))
+      ∙ take_at (file ++ 0 ∷ []) p.rest (gate + 1) (let l = place-is seen gate spilled rs batch heads p in omega (arith, l, length-append file (0 ∷ [])))
 
   pub whole-is : whole ≡ take (gate + 1) seen ++ buffer
   whole-is =
@@ -106,40 +78,32 @@ module _ (seen : List ℕ) (gate : ℕ) (ms : List Mark) (buffer : List ℕ) (us
       ∙ ap (λ (l : List ℕ). take (gate + 1) seen ++ l) (take-append-drop 8 buffer)
 
   front-long : length (take (gate + 1) seen) ≡ gate + 1
-  front-long = ap length first-is ∙ (let l = place-is seen gate rs heads p in omega (arith, l, length-append file (0 ∷ [])))
+  front-long = ap length first-is ∙ (let l = place-is seen gate spilled rs batch heads p in omega (arith, l, length-append file (0 ∷ [])))
 
-  abbrev first : List (Event Head)
-  first = frames_events head_at 8 p.frames
-
-  abbrev second : List (Event Head)
-  second = events_at head_at (gate + 9) rs
-
-  heads-are : heads_after [] (first ++ second) ≡ heads
-  heads-are = chains_after-append effect_of_head [] first second ∙ ap (λ (l : List (List Head)). heads_after l second) (before-is seen gate rs heads p) ∙ (records-good seen gate rs heads p).1
+  -- what holds of the head of each record holds of all heads
+  every-head : (P : Head → Type 0) → FrameHeads P 8 p.frames → Heads P (gate + 9) rs → AllIn effect_of_head P heads
+  every-head P in_file pending = now-kept P p.last heads p.all (steps-kept P (gate + 9) p.before p.last rs p.made pending (frames-kept P 8 gate start p.before p.frames p.opened in_file (tt, tt)))
 
   pub all-written : AllIn effect_of_head (IsWrittenIn whole) heads
   all-written =
-      subst (AllIn effect_of_head (IsWrittenIn whole)) heads-are
-      (chains-all effect_of_head (IsWrittenIn whole) [] (first ++ second) tt
-      (all-append (Says effect_of_head (IsWrittenIn whole)) first second (frames-written whole opening 8 p.frames (0 ∷ (take 8 buffer ++ body rs)) p.each refl refl)
-      (events-written whole (file ++ 0 ∷ take 8 buffer) (gate + 9) rs [] (waits buffer are read).1
+      every-head (IsWrittenIn whole) (frames-written whole opening 8 p.frames (0 ∷ (take 8 buffer ++ body rs)) p.each refl refl)
+      (records-written whole (file ++ 0 ∷ take 8 buffer) (gate + 9) rs [] (waits buffer are read).1
       (sym (append_assoc opening (frames_bytes p.frames) (0 ∷ (take 8 buffer ++ body rs))) ∙ sym (append_assoc file (0 ∷ take 8 buffer) (body rs)) ∙ ap (λ (l : List ℕ). (file ++ 0 ∷ take 8 buffer) ++ l) (sym (append-nil (body rs))))
-      (let l = place-is seen gate rs heads p in let q = pad-long in omega (arith, l, q, length-append file (0 ∷ take 8 buffer))))))
+      (let l = place-is seen gate spilled rs batch heads p in let q = pad-long in omega (arith, l, q, length-append file (0 ∷ take 8 buffer))))
 
   pub all-sides : AllIn effect_of_head (Side gate) heads
   all-sides =
-      subst (AllIn effect_of_head (Side gate)) heads-are
-      (chains-all effect_of_head (Side gate) [] (first ++ second) tt
-      (all-append (Says effect_of_head (Side gate)) first second (ends-side gate first (frames-end gate 8 p.frames (let e = ends-at seen gate rs heads p in omega (arith, e)))) (events-behind gate (gate + 9) rs (omega arith))))
+      every-head (Side gate) (frames-so (EndsBy gate) (Side gate) (λ head le. inl le) 8 p.frames (frames-end gate 8 p.frames (let e = ends-at seen gate spilled rs batch heads p in omega (arith, e))))
+      (records-behind gate (gate + 9) rs (omega arith))
 
-  pub now-heads : map (map (entry_in whole)) heads ≡ now effect_of_entry (state_in seen gate ms buffer usable)
-  now-heads = heads-stand seen gate rs heads p whole (take 8 buffer) pad-long refl ∙ sym (now-is seen gate ms buffer usable counted)
+  pub now-heads : map (map (entry_in whole)) heads ≡ now effect_of_entry (state_in seen gate spilled buffer usable)
+  now-heads = heads-stand seen gate spilled rs batch heads p whole (take 8 buffer) pad-long refl own
 
   module _ (pid : ℕ) where
     abbrev chain : List Head
     chain = slice_index_or heads pid []
 
-    pub chain-is : map (entry_in whole) chain ≡ slice_index_or (now effect_of_entry (state_in seen gate ms buffer usable)) pid []
+    pub chain-is : map (entry_in whole) chain ≡ slice_index_or (now effect_of_entry (state_in seen gate spilled buffer usable)) pid []
     chain-is = sym (get_or-map (map (entry_in whole)) heads pid []) ∙ ap (λ (l : List Chain). slice_index_or l pid []) now-heads
 
     written : AllByRecursion (IsWrittenIn whole) chain
@@ -148,7 +112,7 @@ module _ (seen : List ℕ) (gate : ℕ) (ms : List Mark) (buffer : List ℕ) (us
     sides : AllByRecursion (Side gate) chain
     sides = all-get (AllByRecursion (Side gate)) pid heads [] all-sides tt
 
-    pub known-place : (lsn : ℤ) (pointer : DiskPtr) (d : Head) → Any (IsAt lsn pointer) (slice_index_or (now effect_of_entry (state_in seen gate ms buffer usable)) pid []) → (i : ℕ) × (i < length chain) × (pointer ≡ Inline (get_or chain i d).place)
+    pub known-place : (lsn : ℤ) (pointer : DiskPtr) (d : Head) → Any (IsAt lsn pointer) (slice_index_or (now effect_of_entry (state_in seen gate spilled buffer usable)) pid []) → (i : ℕ) × (i < length chain) × (pointer ≡ Inline (get_or chain i d).place)
     known-place lsn pointer d known = by (subst (Any (IsAt lsn pointer)) (sym chain-is) known)
       where
         by : Any (IsAt lsn pointer) (map (entry_in whole) chain) → (i : ℕ) × (i < length chain) × (pointer ≡ Inline (get_or chain i d).place)
@@ -188,7 +152,7 @@ module _ (seen : List ℕ) (gate : ℕ) (ms : List Mark) (buffer : List ℕ) (us
 
       -- what is read of it is each entry at that place
       pub read-is : (lsn : ℤ) (kind : MessageKind) (payload : List ℕ) → kind ≡ head.kind → payload ≡ take head.len (drop (head.place + 17) whole)
-          → All (λ entry. IsAt lsn (Inline at) entry → IsReadAs entry kind payload) (slice_index_or (now effect_of_entry (state_in seen gate ms buffer usable)) pid [])
+          → All (λ entry. IsAt lsn (Inline at) entry → IsReadAs entry kind payload) (slice_index_or (now effect_of_entry (state_in seen gate spilled buffer usable)) pid [])
       read-is lsn kind payload k p =
           let w = is-written in
           let place : head.place ≡ at = found.3 in

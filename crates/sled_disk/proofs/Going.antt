@@ -4,21 +4,21 @@ use Rattle.std.proofs.lemmas.Result.{err_from_is_err_and}
 use Rattle.sled_log.specs.declared.log.LogError.{LogError}
 use Rattle.sled_disk.proofs.Adding.{same-error}
 use Rattle.sled_log.specs.declared.log.LogError.TheVariants as errors
-use Rattle.std.specs.Prelude.{Result, Ok, Err, IsErrAnd, IsErrOf, Option, Some, None, ◌==◌, ◌&&◌, ◌||◌}
+use Rattle.std.specs.Prelude.{Result, Ok, Err, OnOk, OnErr, is_ok, IsErrAnd, IsErrOf, Option, Some, None, ◌==◌, ◌&&◌, ◌||◌}
 use Rattle.std.specs.List.{AllByRecursion, list_all}
-use Rattle.sled_base.specs.Kinds.{kind_of}
 use Rattle.sled_disk.specs.declared.head.Head.{Head}
 use Rattle.sled_disk.specs.declared.reader.Reader.{Reader}
 use Rattle.sled_disk.specs.declared.reading.RawHead.{RawHead}
 use Rattle.sled_disk.specs.declared.window.Window.{Window}
-use Rattle.sled_disk.specs.Format.{number, is_mark, IsBytes}
-use Rattle.sled_disk.specs.GoesOn.{GoesOn}
-use Rattle.sled_disk.specs.Left.{left_at}
+use Rattle.sled_disk.specs.Format.{Record, number, is_mark, marks, outside, within as within_batch, room_for, IsBytes}
+use Rattle.sled_disk.specs.GoesOn.{GoesOn, begun_by, read_by}
+use Rattle.sled_disk.specs.Abandoned.{room_behind}
+use Rattle.sled_disk.specs.Left.{piece, left_at}
 use Rattle.sled_disk.specs.OnDisk.{BodyOnDisk, HasBody, HasHead, HeadOnDisk}
-use Rattle.sled_disk.specs.Reading.{Made, chains_of, found_at, raw_record, step_head}
+use Rattle.sled_disk.specs.Reading.{Made, Read, start, found_at, raw_record, step}
 use Rattle.std.proofs.lemmas.List.{nil_from_length}
 use Rattle.sled_disk.proofs.OnDisk.{gates-closed, gates-end, gates-far, gates-torn}
-use Rattle.sled_disk.proofs.Left.{left-awaited, left-gate, left-opened, left-unread, read-reached, read-missed, read-refused, read-taken, read-misnamed, read-named}
+use Rattle.sled_disk.proofs.Left.{left-awaited, left-gate, left-opened, left-unread, read-reached, read-missed, read-refused, read-taken, read-alike, read-misnamed, read-named}
 
 -- an error that was handed on is that of the call
 pub handed-on : {T U : Type 0} (call : Result U LogError) (result : Result T LogError) (e wanted : LogError) → call ≡ Err e → IsErrAnd result (λ x. x ≡ e) → IsErrOf result wanted → IsErrOf call wanted
@@ -41,19 +41,19 @@ pub shows-still : (window : Window) (old seen : List ℕ) → old ≡ seen → w
 shows-still window old seen same shows = subst (λ (l : List ℕ). window.bytes.items ≡ take (length window.bytes.items) (drop window.start l)) same shows
 
 -- what all bytes make
-abbrev whole : List ℕ → Option (ℕ × List (List Head))
-whole seen = found_at 8 [] (drop 8 seen)
+abbrev whole : List ℕ → Option (ℕ × Read)
+whole seen = found_at 8 start (drop 8 seen)
 
 pub goes-unread : (seen : List ℕ) (self : Reader) (on : GoesOn seen self) (found : Option (RawHead × ℕ)) → found ≡ None → HeadOnDisk seen self.at self.body_end found → self.at < self.body_end → whole seen ≡ None
 goes-unread seen self on found is head lt =
     let end = on.end in
     let inside = self.inside in
-    sym on.left ∙ left-unread seen self.at self.body_end self.targets (chains_of self.pages.items) lt (omega arith) (subst (HeadOnDisk seen self.at self.body_end) is head)
+    sym on.left ∙ left-unread seen self.at self.body_end self.targets (read_by self) lt (omega arith) (subst (HeadOnDisk seen self.at self.body_end) is head)
 
 module _ (seen : List ℕ) (self : Reader) (on : GoesOn seen self) (found : Option (RawHead × ℕ)) (raw : RawHead) (len : ℕ) (is : found ≡ Some (raw, len)) (head : HeadOnDisk seen self.at self.body_end found) (has : HasHead self.at self.body_end found)
     (targets : List ℕ) (reached : (test : ℕ → Bool) → test self.at ≡ true → list_all test targets ≡ list_all test self.targets) where
-  abbrev chains : List (List Head)
-  chains = chains_of self.pages.items
+  abbrev so_far : Read
+  so_far = read_by self
 
   abbrev at : ℕ
   at = self.at
@@ -68,33 +68,40 @@ module _ (seen : List ℕ) (self : Reader) (on : GoesOn seen self) (found : Opti
   there = subst (HeadOnDisk seen at self.body_end) is head
 
   -- the places that name it are met
-  pub goes-reached : left_at seen at self.body_end targets chains ≡ whole seen
-  goes-reached = sym (read-reached seen at self.body_end raw len within ends there self.targets targets chains reached) ∙ on.left
+  pub goes-reached : left_at seen at self.body_end targets so_far ≡ whole seen
+  goes-reached = sym (read-reached seen at self.body_end raw len within ends there self.targets targets so_far reached) ∙ on.left
 
   pub goes-missed : ((test : ℕ → Bool) → ((target : ℕ) → target < at → test target ≡ false) → list_all test targets ≡ false) → whole seen ≡ None
-  goes-missed missed = sym goes-reached ∙ read-missed seen at self.body_end raw len within ends there targets chains missed
+  goes-missed missed = sym goes-reached ∙ read-missed seen at self.body_end raw len within ends there targets so_far missed
 
-  -- it marks no batch
-  module _ (plain : (payload : List ℕ) → length payload ≡ len → false ≡ is_mark (raw_record raw payload)) where
-    pub goes-refused : step_head chains raw.page (record { kind = kind_of raw.kind; place = at; len = len }) ≡ None → whole seen ≡ None
-    goes-refused refused = sym goes-reached ∙ read-refused seen at self.body_end raw len within ends there targets chains plain refused
+  -- what it makes, whatever its payload and what follows
+  abbrev Makes : Option Read → Type 0
+  Makes made = (payload : List ℕ) (mark : List Record → Bool) (rs : List Record) → length payload ≡ len → payload ≡ piece seen (at + 17) (at + (17 + len)) → mark rs ≡ marks at (raw_record raw payload) rs → step so_far at (raw_record raw payload) (mark rs) ≡ made
 
-    pub goes-taken : (after : List (List Head)) → step_head chains raw.page (record { kind = kind_of raw.kind; place = at; len = len }) ≡ Some after → AllByRecursion (λ target. at < target) targets → left_at seen (at + (17 + len)) self.body_end targets after ≡ whole seen
-    goes-taken after taken ahead = sym (read-taken seen at self.body_end raw len within ends there targets chains after plain taken ahead) ∙ goes-reached
+  pub goes-refused : Makes None → whole seen ≡ None
+  goes-refused refused = sym goes-reached ∙ read-refused seen at self.body_end raw len within ends there targets so_far refused
+
+  pub goes-taken : (after : Read) → Makes (Some after) → AllByRecursion (λ target. at < target) targets → left_at seen (at + (17 + len)) self.body_end targets after ≡ whole seen
+  goes-taken after taken ahead = sym (read-taken seen at self.body_end raw len within ends there targets so_far after taken ahead) ∙ goes-reached
+
+  -- what was read is otherwise, and the record makes the same of it
+  pub goes-alike : (other : Read) → ((payload : List ℕ) (mark : List Record → Bool) (rs : List Record) → length payload ≡ len → payload ≡ piece seen (at + 17) (at + (17 + len)) → step other at (raw_record raw payload) (mark rs) ≡ step so_far at (raw_record raw payload) (mark rs))
+      → left_at seen at self.body_end targets other ≡ whole seen
+  goes-alike other alike = read-alike seen at self.body_end raw len within ends there targets other so_far alike ∙ goes-reached
 
   -- it marks one
-  module _ (marked : (payload : List ℕ) → length payload ≡ len → true ≡ is_mark (raw_record raw payload)) (eight : len ≡ 8) (target : ℕ) (read : target ≡ number (take 8 (drop (at + 17) seen))) where
+  module _ (settled : List (List Head)) (closed : read_by self ≡ outside settled) (marked : (payload : List ℕ) → length payload ≡ len → true ≡ is_mark (raw_record raw payload)) (eight : len ≡ 8) (target : ℕ) (read : target ≡ number (take 8 (drop (at + 17) seen))) where
     pub goes-misnamed : target < at → whole seen ≡ None
-    goes-misnamed before = sym goes-reached ∙ read-misnamed seen at self.body_end raw len within ends there targets chains target marked eight read before
+    goes-misnamed before = sym goes-reached ∙ ap (left_at seen at self.body_end targets) closed ∙ read-misnamed seen at self.body_end raw len within ends there targets settled target marked eight read before
 
-    pub goes-named : (others : List ℕ) → AllByRecursion (λ target. at < target) targets → ((test : ℕ → Bool) → list_all test others ≡ ((target == at || test target) && list_all test targets)) → left_at seen (at + 25) self.body_end others chains ≡ whole seen
-    goes-named others ahead named = sym (read-named seen at self.body_end raw len within ends there targets others chains target marked eight read ahead named) ∙ goes-reached
+    pub goes-named : (others : List ℕ) → AllByRecursion (λ target. at < target) targets → ((test : ℕ → Bool) → list_all test others ≡ ((target == at || test target) && list_all test targets)) → left_at seen (at + 25) self.body_end others (outside settled) ≡ whole seen
+    goes-named others ahead named = sym (read-named seen at self.body_end raw len within ends there targets others settled target marked eight read ahead named) ∙ ap (left_at seen at self.body_end targets) (sym closed) ∙ goes-reached
 
 -- ---- before a gate
 
 module _ (seen : List ℕ) (self : Reader) (on : GoesOn seen self) (gate-here : self.at ≡ self.body_end) where
-  abbrev heads : List (List Head)
-  heads = chains_of self.pages.items
+  abbrev heads : Read
+  heads = read_by self
 
   before : left_at seen self.at self.at self.targets heads ≡ whole seen
   before = ap (λ n. left_at seen self.at n self.targets heads) gate-here ∙ on.left
@@ -118,10 +125,10 @@ module _ (seen : List ℕ) (self : Reader) (on : GoesOn seen self) (gate-here : 
       stands : self.at < length seen
       stands = let end = on.end in omega arith
 
-      pub goes-closed : gate ≡ 0 → self.at < 2 ^ 63 → whole seen ≡ Some (self.at, heads)
+      pub goes-closed : gate ≡ 0 → self.at + room_for (read_by self).begun < 2 ^ 63 → whole seen ≡ Some (self.at, heads)
       goes-closed closed small = sym at-gate ∙ gates-closed seen self.at heads gate stands is closed small
 
-      pub goes-far : gate ≡ 0 → 2 ^ 63 ≤ self.at → whole seen ≡ None
+      pub goes-far : gate ≡ 0 → 2 ^ 63 ≤ self.at + room_for (read_by self).begun → whole seen ≡ None
       goes-far closed far = sym at-gate ∙ gates-far seen self.at heads gate stands is closed far
 
       pub goes-torn : (found : Option ℕ) → found ≡ None → BodyOnDisk seen (self.at + 1) found → gate ≢ 0 → whole seen ≡ None
@@ -132,3 +139,36 @@ module _ (seen : List ℕ) (self : Reader) (on : GoesOn seen self) (gate-here : 
           ap (λ (targets : List ℕ). left_at seen (self.at + 9) (self.at + 9 + len) targets heads) (nil_from_length self.targets met)
           ∙ left-opened seen self.at len heads gate stands is opened (let end = on.end in let all = (subst (HasBody (self.at + 1) self.end) some has).1 in omega arith) (subst (BodyOnDisk seen (self.at + 1)) some body) fits
           ∙ at-gate
+
+-- as much room is needed as the code knows
+pub room-known : (begun : Option ℕ) (inside : List (ℕ × Head)) → room_for (begun_by begun inside) ≡ room_behind begun
+room-known None inside = refl
+room-known (Some place) inside = refl
+
+-- how far was read, by its parts
+abbrev pub read_with : List (List Head) → Option ℕ → List (ℕ × Head) → Read
+read_with settled begun inside = record { settled = settled; begun = begun_by begun inside }
+
+pub read-closed : (settled : List (List Head)) (begun : Option ℕ) (inside : List (ℕ × Head)) → begun ≡ None → read_with settled begun inside ≡ outside settled
+read-closed settled begun inside closed = ap (λ (b : Option ℕ). read_with settled b inside) closed
+
+pub read-opened : (settled : List (List Head)) (begun : Option ℕ) (place : ℕ) (inside : List (ℕ × Head)) → begun ≡ Some place → read_with settled begun inside ≡ within_batch settled place inside
+read-opened settled begun place inside opened = ap (λ (b : Option ℕ). read_with settled b inside) opened
+
+-- the same place, and the same targets
+pub left-same : (seen : List ℕ) (so_far : Read) (here there end last : ℕ) (targets others : List ℕ) → here ≡ there → end ≡ last → targets ≡ others → left_at seen here end targets so_far ≡ left_at seen there last others so_far
+left-same seen so_far here there end last targets others a b c =
+    ap (λ n. left_at seen n end targets so_far) a ∙ ap (λ n. left_at seen there n targets so_far) b ∙ ap (λ (l : List ℕ). left_at seen there last l so_far) c
+
+-- a call succeeded, or it failed
+pub either_way : {T E P : Type 0} (r : Result T E) → (is_ok r ≡ true → P) → (is_ok r ≡ false → P) → P
+either_way (Ok x) a b = a refl
+either_way (Err e) a b = b refl
+
+pub at_ok : {T E A : Type 0} (r : Result T E) → OnOk r A → is_ok r ≡ true → A
+at_ok (Ok x) a h = a
+at_ok (Err e) a h = absurd cc
+
+pub at_err : {T E A : Type 0} (r : Result T E) → OnErr r A → is_ok r ≡ false → A
+at_err (Ok x) a h = absurd cc
+at_err (Err e) a h = a

@@ -5,7 +5,7 @@ use Rattle.std.specs.Global.{Vec}
 use Rattle.std.proofs.lemmas.List.{map-set, length-map}
 use Rattle.std.proofs.lemmas.Bool.{ne_eqb}
 use Rattle.sled_disk.specs.declared.head.Head.{Head}
-use Rattle.sled_base.specs.Kinds.{kind_of, log_kind_of}
+use Rattle.sled_base.specs.Kinds.{kind_of}
 use Rattle.sled_base.specs.declared.kinds.LogKind.{LogKind}
 use Rattle.sled_base.specs.declared.kinds.LogKind.TheVariants as effects
 use Rattle.sled_base.specs.declared.kinds.MessageKind.TheVariants as kinds
@@ -15,8 +15,9 @@ use Rattle.sled_log.proofs.ChainLaws.{Says, AllIn, chains-all}
 use Rattle.sled_log.specs.Inside.ShapeLaws.{AreChains, chains-are}
 use Rattle.std.specs.List.{AllByRecursion}
 use Rattle.sled_disk.specs.Opened.{AllEndBy, AreHeads, AreHeadsBy, EndsBy, IsPlaced}
-use Rattle.sled_disk.specs.Format.{Record, event_by, may_stand}
-use Rattle.sled_disk.specs.Reading.{chains_of, effect_of_head, head_at, event_of, step, step_head}
+use Rattle.sled_base.specs.declared.kinds.MessageKind.{MessageKind}
+use Rattle.sled_disk.specs.Format.{◌>>=◌, Record, outside, plain, takes_change}
+use Rattle.sled_disk.specs.Reading.{chains_of, effect_of_head, head_at, event_of, may_stand, step_head}
 
 -- the chain of a page that is there
 pub chain_at : (pages : List (Vec Head)) (page : ℕ) (chain : Vec Head) → page < length pages → chain ≡ get_or pages page chain → slice_index_or (chains_of pages) page [] ≡ chain.items
@@ -53,27 +54,25 @@ same-chain (first ∷ pages) (suc page) chain new lt is same = ap (λ (l : List 
 
 -- ---- a record and its head
 
-event-is : (kind : LogKind) (place : ℕ) (r : Record) → event_by head_at kind place r ≡ event_of kind r.id (head_at place r)
-event-is effects.Replace place r = refl
-event-is effects.Free place r = refl
-event-is effects.Link place r = refl
-event-is effects.Skip place r = refl
-event-is effects.Corrupted place r = refl
+-- a record outside a batch that begins none and marks none
+pub plain-head : (kind : MessageKind) (chains : List (List Head)) (place : ℕ) (r : Record) → kind_of r.kind ≡ kind → plain head_at (takes_change effect_of_head) kind chains place r false ≡ (step_head chains r.id (head_at place r) >>= λ t. Some (outside t))
+unfolding step_head
+plain-head kinds.Canceled chains place r is = rw is refl
+plain-head kinds.BatchManifest chains place r is = rw is refl
+plain-head kinds.Corrupted chains place r is = rw is refl
+plain-head kinds.Cap chains place r is = rw is refl
+plain-head kinds.Free chains place r is = rw is refl
+plain-head kinds.Counter chains place r is = rw is refl
+plain-head kinds.InlineMeta chains place r is = rw is refl
+plain-head kinds.BlobMeta chains place r is = rw is refl
+plain-head kinds.InlineNode chains place r is = rw is refl
+plain-head kinds.BlobNode chains place r is = rw is refl
+plain-head kinds.InlineLink chains place r is = rw is refl
+plain-head kinds.BlobLink chains place r is = rw is refl
 
--- a record that marks no batch
-pub step-is : (chains : List (List Head)) (place : ℕ) (r : Record) → step chains place r false ≡ step_head chains r.id (head_at place r)
-unfolding step step_head
-step-is chains place r = ap (λ (events : List (Event Head)). if may_stand effect_of_head (kind_of r.kind) chains r.id false then Some (chains_after effect_of_head chains events) else None) (event-is (log_kind_of (kind_of r.kind)) place r)
-
--- a record that marks one
-pub step-mark : (chains : List (List Head)) (place : ℕ) (r : Record) → kind_of r.kind ≡ kinds.BatchManifest → step chains place r true ≡ Some chains
-unfolding step
-step-mark chains place r is = rw is refl
-
--- one that may mark none
-pub step-unmarked : (chains : List (List Head)) (place : ℕ) (r : Record) → kind_of r.kind ≡ kinds.BatchManifest → step chains place r false ≡ None
-unfolding step
-step-unmarked chains place r is = rw is refl
+-- one that marks one
+pub plain-mark : (chains : List (List Head)) (place : ℕ) (r : Record) (b : Bool) → kind_of r.kind ≡ kinds.BatchManifest → plain head_at (takes_change effect_of_head) (kind_of r.kind) chains place r b ≡ (if b then Some (outside chains) else None)
+plain-mark chains place r b is = rw is refl
 
 -- ---- heads that end before a place
 
@@ -120,7 +119,7 @@ event-ends end effects.Corrupted id head le = tt
 -- with a record that was taken
 pub heads-taken : (end : ℕ) (chains after : List (List Head)) (id : ℕ) (head : Head) → step_head chains id head ≡ Some after → EndsBy end head → AllByRecursion (AreHeadsBy end) chains → AllByRecursion (AreHeadsBy end) after
 unfolding step_head
-heads-taken end chains after id head taken le h = by (may_stand effect_of_head head.kind chains id false) taken
+heads-taken end chains after id head taken le h = by (may_stand head.kind chains id) taken
   where
     events : List (Event Head)
     events = event_of (effect_of_head head) id head

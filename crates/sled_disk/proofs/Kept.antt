@@ -1,43 +1,46 @@
 -- The heads that a log keeps, whatever its disk gives.
-use Rattle.std.proofs.Common.{◌≡◌, ℕ, ◌+◌, ◌^◌, ◌<◌, ◌≤◌, Bool, true, false, List, [], ◌∷◌, slice_index_or, sym, arith, subst}
+use Rattle.std.proofs.Common.{◌≡◌, ℕ, zero, suc, ◌<◌, ◌≤◌, Bool, true, false, List, [], ◌∷◌, length, get_or, slice_index_or, sym, arith, subst}
 use Rattle.std.specs.Prelude.{Some, None, if◌then◌else◌}
 use Rattle.std.specs.List.{AllByRecursion}
-use Rattle.sled_base.specs.Kinds.{kind_of, log_kind_of}
 use Rattle.sled_base.specs.declared.kinds.LogKind.{LogKind}
 use Rattle.sled_base.specs.declared.kinds.LogKind.TheVariants as effects
 use Rattle.sled_log.proofs.ChainLaws.{all-get, Says, AllIn, chains-all}
 use Rattle.sled_log.specs.Chains.{chains_after}
 use Rattle.sled_log.specs.Inside.ShapeLaws.{AreChains, chains-are}
 use Rattle.sled_disk.specs.declared.head.Head.{Head}
-use Rattle.sled_disk.specs.Format.{Record, size, event_by, event_at, may_stand}
 use Rattle.sled_disk.specs.Opened.{AreHeads, IsPlaced, EndsBy, AllEndBy}
 use Rattle.sled_disk.specs.Found.{IsHeadOf}
-use Rattle.sled_disk.proofs.ByPlace.{all-at}
-use Rattle.sled_disk.specs.Reading.{step, head_at, effect_of_head}
+use Rattle.sled_disk.specs.Reading.{may_stand, event_of, step_head, effect_of_head}
 
-event-says : (P : Head → Type 0) (kind : LogKind) (place : ℕ) (r : Record) → P (head_at place r) → AllByRecursion (Says effect_of_head P) (event_by head_at kind place r)
-event-says P effects.Replace place r h = (h, tt)
-event-says P effects.Free place r h = (h, tt)
-event-says P effects.Link place r h = (h, tt)
-event-says P effects.Skip place r h = tt
-event-says P effects.Corrupted place r h = tt
+-- one of some of which P holds
+pub all-at : {X : Type 0} (P : X → Type 0) (xs : List X) (i : ℕ) (d : X) → i < length xs → AllByRecursion P xs → P (get_or xs i d)
+all-at P [] i d lt h = absurd (omega (arith, lt))
+all-at P (x ∷ xs) zero d lt h = h.0
+all-at P (x ∷ xs) (suc i) d lt h = all-at P xs i d (omega (arith, lt)) h.1
+
+event-says : (P : Head → Type 0) (kind : LogKind) (id : ℕ) (head : Head) → P head → AllByRecursion (Says effect_of_head P) (event_of kind id head)
+event-says P effects.Replace id head h = (h, tt)
+event-says P effects.Free id head h = (h, tt)
+event-says P effects.Link id head h = (h, tt)
+event-says P effects.Skip id head h = tt
+event-says P effects.Corrupted id head h = tt
 
 -- a step adds its head, or none
-step-is : (chains : List (List Head)) (place : ℕ) (r : Record) (mark : Bool) (after : List (List Head)) → step chains place r mark ≡ Some after → chains_after effect_of_head chains (event_at head_at place r) ≡ after
-unfolding step
-step-is chains place r mark after is = by (may_stand effect_of_head (kind_of r.kind) chains r.id mark) is
+step-is : (chains : List (List Head)) (id : ℕ) (head : Head) (after : List (List Head)) → step_head chains id head ≡ Some after → chains_after effect_of_head chains (event_of (effect_of_head head) id head) ≡ after
+unfolding step_head
+step-is chains id head after is = by (may_stand head.kind chains id) is
   where
-    by : (may : Bool) → (if may then Some (chains_after effect_of_head chains (event_at head_at place r)) else None) ≡ Some after → chains_after effect_of_head chains (event_at head_at place r) ≡ after
+    by : (may : Bool) → (if may then Some (chains_after effect_of_head chains (event_of (effect_of_head head) id head)) else None) ≡ Some after → chains_after effect_of_head chains (event_of (effect_of_head head) id head) ≡ after
     by true is = cc
     by false is = absurd cc
 
 -- what each head has, and the one that is added, each has after it
-pub step-all : (P : Head → Type 0) (chains : List (List Head)) (place : ℕ) (r : Record) (mark : Bool) (after : List (List Head)) → P (head_at place r) → AllIn effect_of_head P chains → step chains place r mark ≡ Some after → AllIn effect_of_head P after
-step-all P chains place r mark after here all is =
-    subst (AllIn effect_of_head P) (step-is chains place r mark after is) (chains-all effect_of_head P chains (event_at head_at place r) all (event-says P (log_kind_of (kind_of r.kind)) place r here))
+pub step-all : (P : Head → Type 0) (chains : List (List Head)) (id : ℕ) (head : Head) (after : List (List Head)) → P head → AllIn effect_of_head P chains → step_head chains id head ≡ Some after → AllIn effect_of_head P after
+step-all P chains id head after here all is =
+    subst (AllIn effect_of_head P) (step-is chains id head after is) (chains-all effect_of_head P chains (event_of (effect_of_head head) id head) all (event-says P (effect_of_head head) id head here))
 
-step-chains : (chains : List (List Head)) (place : ℕ) (r : Record) (mark : Bool) (after : List (List Head)) → AreChains effect_of_head chains → step chains place r mark ≡ Some after → AreChains effect_of_head after
-step-chains chains place r mark after are is = subst (AreChains effect_of_head) (step-is chains place r mark after is) (chains-are effect_of_head chains (event_at head_at place r) are)
+step-chains : (chains : List (List Head)) (id : ℕ) (head : Head) (after : List (List Head)) → AreChains effect_of_head chains → step_head chains id head ≡ Some after → AreChains effect_of_head after
+step-chains chains id head after are is = subst (AreChains effect_of_head) (step-is chains id head after is) (chains-are effect_of_head chains (event_of (effect_of_head head) id head) are)
 
 each-chain : (chains : List (List Head)) → AllByRecursion AreHeads chains → AreChains effect_of_head chains
 each-chain [] h = tt
@@ -52,10 +55,10 @@ each-heads [] h p = tt
 each-heads (chain ∷ chains) h p = (record { chain = h.0; placed = p.0 }, each-heads chains h.1 p.1)
 
 -- what is kept stays heads, where a record is taken that ends below the greatest place
-pub step-heads : (chains : List (List Head)) (place : ℕ) (r : Record) (mark : Bool) (after : List (List Head)) → place + size r < 2 ^ 63 → AllByRecursion AreHeads chains → step chains place r mark ≡ Some after → AllByRecursion AreHeads after
-step-heads chains place r mark after small h is =
-    each-heads after (step-chains chains place r mark after (each-chain chains h) is)
-    (step-all IsPlaced chains place r mark after small (each-placed chains h) is)
+pub step-heads : (chains : List (List Head)) (id : ℕ) (head : Head) (after : List (List Head)) → IsPlaced head → AllByRecursion AreHeads chains → step_head chains id head ≡ Some after → AllByRecursion AreHeads after
+step-heads chains id head after small h is =
+    each-heads after (step-chains chains id head after (each-chain chains h) is)
+    (step-all IsPlaced chains id head after small (each-placed chains h) is)
 
 -- ---- where they end
 
@@ -68,8 +71,8 @@ all-later a b [] le h = tt
 all-later a b (chain ∷ chains) le h = (ends-later a b chain le h.0, all-later a b chains le h.1)
 
 -- one record more ends at the new end
-pub step-ends : (before end : ℕ) (chains : List (List Head)) (place : ℕ) (r : Record) (mark : Bool) (after : List (List Head)) → before ≤ end → place + size r ≤ end → AllEndBy before chains → step chains place r mark ≡ Some after → AllEndBy end after
-step-ends before end chains place r mark after le here h is = step-all (EndsBy end) chains place r mark after here (all-later before end chains le h) is
+pub step-ends : (before end : ℕ) (chains : List (List Head)) (id : ℕ) (head : Head) (after : List (List Head)) → before ≤ end → EndsBy end head → AllEndBy before chains → step_head chains id head ≡ Some after → AllEndBy end after
+step-ends before end chains id head after le here h is = step-all (EndsBy end) chains id head after here (all-later before end chains le h) is
 
 -- ---- one of them
 

@@ -1,7 +1,10 @@
 pub mod Heads
 pub mod OnDisk
 mod Left
+mod TakenBy
+mod Makes
 mod Going
+mod Each
 pub mod Shown
 pub mod Sized
 pub mod Placed
@@ -18,16 +21,18 @@ mod Adding
 mod NoPages
 mod OfItsBytes
 mod Calling
-mod Sealing
 mod ByPlace
 mod Bounded
+mod Meaning
 mod Reached
 mod Created
 mod Kept
 mod WrittenAgain
 mod Told
 mod StagedMoments
+pub mod Counting
 pub mod Among
+pub mod Looked
 pub mod Naming
 pub mod Unnamed
 mod ThenRead

@@ -1,5 +1,6 @@
 -- A log of which nothing is pending is the one of the bytes of its file.
 use Rattle.std.proofs.Common.{◌≡◌, ◌∙◌, ℕ, Bool, true, List, [], ap}
+use Rattle.std.specs.Prelude.{Option}
 use Rattle.sled_log.specs.Chains.{chains_after}
 use Rattle.sled_log.specs.Events.{Event}
 use Rattle.sled_log.specs.LogState.{LogState}
@@ -10,12 +11,11 @@ use Rattle.sled_disk.specs.Ready.{IsLogOf}
 use Rattle.sled_disk.specs.ReadyLaws.{stands-described}
 use Rattle.sled_disk.specs.Standing.{Stands, events_in}
 use Rattle.sled_disk.specs.declared.head.Head.{Head}
-use Rattle.sled_disk.specs.declared.mark.Mark.{Mark}
 
-module _ (seen : List ℕ) (gate : ℕ) (rs : List Record) (heads : List (List Head)) (fits : IsBytes seen) (s : Stands seen gate rs heads) (marks : List Mark) (buffer : List ℕ) (usable : Bool) where
+module _ (seen : List ℕ) (gate : ℕ) (spilled : Bool) (rs : List Record) (batch : Option ℕ) (heads : List (List Head)) (fits : IsBytes seen) (s : Stands seen gate spilled rs batch heads) (buffer : List ℕ) (usable : Bool) where
   -- with this pending
   abbrev then : List (Event Entry) → Bool → LogState Entry
   then pending usable = record { stable = chains_after effect_of_entry [] (events_in seen); pending = pending; usable = usable }
 
-  pub of-its-bytes : usable ≡ true → (state_in seen gate marks buffer usable).pending ≡ [] → IsLogOf seen (state_in seen gate marks buffer usable)
-  of-its-bytes ok none = (events_in seen, (gate, stands-described seen gate rs heads fits s), ap (λ (l : List (Event Entry)). then l usable) none ∙ ap (λ (b : Bool). then [] b) ok)
+  pub of-its-bytes : usable ≡ true → (state_in seen gate spilled buffer usable).pending ≡ [] → IsLogOf seen (state_in seen gate spilled buffer usable)
+  of-its-bytes ok none = (events_in seen, (gate, stands-described seen gate spilled rs batch heads fits s), ap (λ (l : List (Event Entry)). then l usable) none ∙ ap (λ (b : Bool). then [] b) ok)

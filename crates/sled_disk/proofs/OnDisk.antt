@@ -1,7 +1,6 @@
 -- What is read at a place of a disk.
 use Rattle.std.proofs.Common.{◌≡◌, ◌≢◌, ℕ, ◌+◌, ◌-◌, ◌≤◌, ◌<◌, List, [], ◌∷◌, length, take, drop, refl, ap, sym, ◌∙◌, arith}
 use Rattle.std.specs.Prelude.{Some, None, get_or, ◌^◌}
-use Rattle.sled_disk.specs.declared.head.Head.{Head}
 use Rattle.sled_disk.specs.declared.reading.RawHead.{RawHead}
 use Rattle.sled_disk.specs.Left.{piece}
 use Rattle.sled_disk.specs.OnDisk.{HeadOnDisk}
@@ -9,8 +8,8 @@ use Rattle.sled_disk.specs.FrameLaws.{left-end, left-closed, left-far, left-torn
 use Rattle.sled_disk.specs.EncodingLaws.{IsBytes-drop}
 use Rattle.std.proofs.lemmas.Bool.{lt-ltb, le-ltb, eq-eqb, ne_eqb}
 use Rattle.std.proofs.lemmas.List.{drop-drop, drop-take, take-take, length-drop, length-take, get_or-take}
-use Rattle.sled_disk.specs.Format.{number, IsBytes}
-use Rattle.sled_disk.specs.Reading.{body_at, found_at, raw_record, record_at, steps_of}
+use Rattle.sled_disk.specs.Format.{number, room_for, IsBytes}
+use Rattle.sled_disk.specs.Reading.{Read, body_at, found_at, raw_record, record_at, steps_of}
 
 module _ (seen : List ℕ) (at : ℕ) where
   pub body-few : length seen < at + 8 → body_at (drop at seen) ≡ None
@@ -97,7 +96,7 @@ module _ (seen : List ℕ) (at end : ℕ) where
 
 -- ---- a step of the loop over gates, where a body was read
 
-module _ (seen : List ℕ) (at : ℕ) (chains : List (List Head)) where
+module _ (seen : List ℕ) (at : ℕ) (so_far : Read) where
   gate_is : (gate : ℕ) → gate ≡ get_or (drop at seen) 0 0 → (n : ℕ) → gate ≡ n → get_or (drop at seen) 0 0 ≡ n
   gate_is gate is n e = sym is ∙ e
 
@@ -107,25 +106,25 @@ module _ (seen : List ℕ) (at : ℕ) (chains : List (List Head)) where
   some-left : at < length seen → 1 ≤ length (drop at seen)
   some-left lt = omega (arith, length-drop at seen)
 
-  pub gates-end : length seen ≤ at → found_at at chains (drop at seen) ≡ None
-  gates-end le = left-end at chains (drop at seen) (omega (arith, length-drop at seen))
+  pub gates-end : length seen ≤ at → found_at at so_far (drop at seen) ≡ None
+  gates-end le = left-end at so_far (drop at seen) (omega (arith, length-drop at seen))
 
-  pub gates-closed : (gate : ℕ) → at < length seen → gate ≡ get_or (drop at seen) 0 0 → gate ≡ 0 → at < 2 ^ 63 → found_at at chains (drop at seen) ≡ Some (at, chains)
-  gates-closed gate lt is closed small = left-closed at chains (drop at seen) (some-left lt) (gate_is gate is 0 closed) small
+  pub gates-closed : (gate : ℕ) → at < length seen → gate ≡ get_or (drop at seen) 0 0 → gate ≡ 0 → at + room_for so_far.begun < 2 ^ 63 → found_at at so_far (drop at seen) ≡ Some (at, so_far)
+  gates-closed gate lt is closed small = left-closed at so_far (drop at seen) (some-left lt) (gate_is gate is 0 closed) small
 
-  pub gates-far : (gate : ℕ) → at < length seen → gate ≡ get_or (drop at seen) 0 0 → gate ≡ 0 → 2 ^ 63 ≤ at → found_at at chains (drop at seen) ≡ None
-  gates-far gate lt is closed far = left-far at chains (drop at seen) (some-left lt) (gate_is gate is 0 closed) far
+  pub gates-far : (gate : ℕ) → at < length seen → gate ≡ get_or (drop at seen) 0 0 → gate ≡ 0 → 2 ^ 63 ≤ at + room_for so_far.begun → found_at at so_far (drop at seen) ≡ None
+  gates-far gate lt is closed far = left-far at so_far (drop at seen) (some-left lt) (gate_is gate is 0 closed) far
 
-  pub gates-torn : (gate : ℕ) → at < length seen → gate ≡ get_or (drop at seen) 0 0 → gate ≢ 0 → body_at (drop (at + 1) seen) ≡ None → found_at at chains (drop at seen) ≡ None
-  gates-torn gate lt is opened none = left-torn at chains (drop at seen) (some-left lt) (λ e. opened (is ∙ e)) (sym (ap body_at behind-is ∙ none))
+  pub gates-torn : (gate : ℕ) → at < length seen → gate ≡ get_or (drop at seen) 0 0 → gate ≢ 0 → body_at (drop (at + 1) seen) ≡ None → found_at at so_far (drop at seen) ≡ None
+  gates-torn gate lt is opened none = left-torn at so_far (drop at seen) (some-left lt) (λ e. opened (is ∙ e)) (sym (ap body_at behind-is ∙ none))
 
-  pub gates-refused : (gate : ℕ) (inside behind : List ℕ) → at < length seen → gate ≡ get_or (drop at seen) 0 0 → gate ≢ 0 → body_at (drop (at + 1) seen) ≡ Some (inside, behind) → steps_of (at + 9) chains inside ≡ None → found_at at chains (drop at seen) ≡ None
-  gates-refused gate inside behind lt is opened some refused = left-refused at chains (drop at seen) inside behind (some-left lt) (λ e. opened (is ∙ e)) (sym (ap body_at behind-is ∙ some)) refused
+  pub gates-refused : (gate : ℕ) (inside behind : List ℕ) → at < length seen → gate ≡ get_or (drop at seen) 0 0 → gate ≢ 0 → body_at (drop (at + 1) seen) ≡ Some (inside, behind) → steps_of (at + 9) so_far inside ≡ None → found_at at so_far (drop at seen) ≡ None
+  gates-refused gate inside behind lt is opened some refused = left-refused at so_far (drop at seen) inside behind (some-left lt) (λ e. opened (is ∙ e)) (sym (ap body_at behind-is ∙ some)) refused
 
-  pub gates-taken : (gate : ℕ) (inside behind : List ℕ) (after : List (List Head)) → at < length seen → gate ≡ get_or (drop at seen) 0 0 → gate ≢ 0 → body_at (drop (at + 1) seen) ≡ Some (inside, behind) → IsBytes seen → steps_of (at + 9) chains inside ≡ Some after
-      → found_at at chains (drop at seen) ≡ found_at (at + (9 + length inside)) after behind
+  pub gates-taken : (gate : ℕ) (inside behind : List ℕ) (after : Read) → at < length seen → gate ≡ get_or (drop at seen) 0 0 → gate ≢ 0 → body_at (drop (at + 1) seen) ≡ Some (inside, behind) → IsBytes seen → steps_of (at + 9) so_far inside ≡ Some after
+      → found_at at so_far (drop at seen) ≡ found_at (at + (9 + length inside)) after behind
   gates-taken gate inside behind after lt is opened some fits taken =
-      left-taken at chains (drop at seen) inside behind after (some-left lt) (λ e. opened (is ∙ e)) (sym (ap body_at behind-is ∙ some)) (IsBytes-drop at seen fits) taken
+      left-taken at so_far (drop at seen) inside behind after (some-left lt) (λ e. opened (is ∙ e)) (sym (ap body_at behind-is ∙ some)) (IsBytes-drop at seen fits) taken
 
 -- what a window shows of a place
 pub shown-at : (seen window : List ℕ) (start from len at : ℕ) → window ≡ take (length window) (drop start seen) → start + from ≡ at → from + len ≤ length window → take len (drop from window) ≡ take len (drop at seen)

@@ -1,28 +1,28 @@
 -- What the calls of a log leave of its place among its records, and of the messages that it has still to name.
-use Rattle.std.proofs.Common.{◌≡◌, ◌≢◌, inl, inr, ℕ, ◌+◌, ◌≤◌, ◌<◌, true, false, List, [], ◌∷◌, ◌++◌, drop, refl, ap, sym, ◌∙◌, subst, append_assoc, arith}
+use Rattle.std.proofs.Common.{◌≡◌, ◌≢◌, inl, inr, ℕ, zero, suc, ◌+◌, ◌≤◌, ◌<◌, true, false, List, [], ◌∷◌, ◌++◌, length, drop, refl, ap, sym, ◌∙◌, subst, append_assoc, arith}
 use Rattle.std.specs.Prelude.{Option, Some, None, ◌==◌, ◌||◌, nat_lt, if◌then◌else◌}
 use Rattle.std.proofs.lemmas.Bool.{cases_lt, lt-ltb, le-leb, eq-eqb}
 use Rattle.std.proofs.lemmas.List.{append-nil}
-use Rattle.sled_base.specs.declared.kinds.MessageKind.{MessageKind}
 use Rattle.sled_log.specs.Calls.{Counts}
 use Rattle.sled_log.specs.Events.{Event, Change}
-use Rattle.sled_log.specs.Messages.{Entry, message, placed_entry}
+use Rattle.sled_log.specs.Messages.{Entry}
 use Rattle.sled_log.specs.Moves.{Moves, first_of, due_among, moves_with}
 use Rattle.sled_disk.specs.declared.names.Names.{Names}
 use Rattle.sled_disk.specs.declared.next_frame.NextFrame.{NextFrame}
+use Rattle.sled_disk.specs.Counting.{placed_in, counting, IsLooked}
 use Rattle.sled_disk.specs.Cursor.{is_among, IsAmong}
-use Rattle.sled_disk.specs.EncodingLaws.{number_bytes-length}
-use Rattle.sled_disk.specs.Format.{Record, Frame, size, event_at, events_at, entry_at}
+use Rattle.sled_disk.specs.Format.{Record, Frame, body}
 use Rattle.sled_disk.specs.MeaningLaws.{gate_after}
-use Rattle.sled_disk.specs.Names.{messages_in, all_messages, from_place, one_or_none, moves_in, read_of, IsSought, IsDueOfAll}
-use Rattle.sled_disk.specs.Pending.{batch_at, begun_record, sealed_in}
+use Rattle.sled_disk.specs.Names.{offset_in, messages_in, all_messages, from_place, one_or_none, moves_in, read_of, most_steps, IsStep, AreSteps, IsSought, IsReadAhead, IsDueOfAll}
+use Rattle.sled_disk.specs.Pending.{pending_in, pending_event}
 use Rattle.sled_disk.specs.Reading.{frames_of}
-use Rattle.sled_disk.specs.Standing.{or_none, events_in}
-use Rattle.sled_disk.specs.Waiting.{events_of, place_of, said_of}
-use Rattle.sled_disk.proofs.Adding.{events-more}
-use Rattle.sled_disk.proofs.Among.{Between, between-more, stands, is-among, stands-first, stands-other, stands-written, frames-kept, messages-append, from-append}
+use Rattle.sled_disk.specs.Standing.{or_none, events_in, records_behind}
+use Rattle.sled_disk.specs.Waiting.{pending_of, place_of}
+use Rattle.sled_disk.proofs.Adding.{waiting-more}
+use Rattle.sled_disk.proofs.Among.{Between, between-more, stands, is-among, stands-first, stands-other, stands-written}
+use Rattle.sled_disk.proofs.Counting.{message_of, event-messages, messages-append}
+use Rattle.sled_disk.proofs.Looked.{names-append, first-names, looks-alike}
 use Rattle.sled_disk.proofs.Naming.{grown-later}
-use Rattle.sled_disk.proofs.Sealing.{Begins, split, sealed, no-event-begun, no-event-sealed}
 
 -- ---- the place
 
@@ -34,25 +34,6 @@ among-other seen rs others gate at k s =
 -- one record more
 pub among-more : (seen : List ℕ) (rs : List Record) (r : Record) (gate at : ℕ) → IsAmong seen rs gate at → IsAmong seen (rs ++ r ∷ []) gate at
 among-more seen rs r gate at s = among-other seen rs (rs ++ r ∷ []) gate at (λ place b is. between-more place rs r at b) s
-
--- another record of the same length in the place of one
-between-replaced : (it other : Record) → size it ≡ size other → (before after : List Record) (place at : ℕ) → Between place (before ++ it ∷ after) at → Between place (before ++ other ∷ after) at
-between-replaced it other same [] after place at (inl is) = inl is
-between-replaced it other same [] after place at (inr b) = inr (subst (λ n. Between (place + n) after at) same b)
-between-replaced it other same (first ∷ before) after place at (inl is) = inl is
-between-replaced it other same (first ∷ before) after place at (inr b) = inr (between-replaced it other same before after (place + size first) at b)
-
-sealed-size : (last : ℕ) (it : Record) → Begins it → size it ≡ size (sealed last it)
-sealed-size last it b = let l = b.long in omega (arith, l, number_bytes-length last)
-
--- a batch was sealed
-pub among-sealed : (seen : List ℕ) (rs : List Record) (place batch last : ℕ) (gate at : ℕ) → batch_at place batch last rs ≡ true → IsAmong seen rs gate at → IsAmong seen (sealed_in place batch last rs) gate at
-among-sealed seen rs place batch last gate at h s =
-    let t = split place batch last rs h in
-    subst (λ (l : List Record). IsAmong seen l gate at) (sym t.seals)
-    (among-other seen (t.before ++ t.it ∷ t.after) (t.before ++ sealed last t.it ∷ t.after) gate at
-    (λ first b is. between-replaced t.it (sealed last t.it) (sealed-size last t.it t.begins) t.before t.after first at b)
-    (subst (λ (l : List Record). IsAmong seen l gate at) t.is s))
 
 -- the pending records were written as a frame
 pub among-written : (seen after : List ℕ) (rs none : List Record) (gate at : ℕ) → none ≡ [] → or_none (frames_of (drop 8 after)) ≡ or_none (frames_of (drop 8 seen)) ++ record { gate = 1; records = rs } ∷ [] → IsAmong seen rs gate at → IsAmong after none gate at
@@ -67,66 +48,77 @@ among-first seen rs gate at g a =
     let frames = or_none (frames_of (drop 8 seen)) in
     subst (λ n. IsAmong seen rs n at) (sym g) (subst (λ n. IsAmong seen rs 8 n) (sym a) (record { known = is-among 8 frames rs 8 17 (stands-first 8 frames rs) }))
 
--- ---- the events
-
--- the record that begins a batch is none
-pub events-begun : (place : ℕ) (rs : List Record) → events_at entry_at place (rs ++ begun_record ∷ []) ≡ events_at entry_at place rs
-events-begun place rs = events-more place rs begun_record ∙ append-nil (events_at entry_at place rs)
-
-events-replaced : (it other : Record) → size it ≡ size other → ((place : ℕ) → event_at entry_at place it ≡ []) → ((place : ℕ) → event_at entry_at place other ≡ []) → (before after : List Record) (place : ℕ)
-    → events_at entry_at place (before ++ other ∷ after) ≡ events_at entry_at place (before ++ it ∷ after)
-events-replaced it other same none-it none-other [] after place =
-    ap (λ (l : List (Event Entry)). l ++ events_at entry_at (place + size other) after) (none-other place)
-    ∙ ap (λ n. events_at entry_at (place + n) after) (sym same)
-    ∙ sym (ap (λ (l : List (Event Entry)). l ++ events_at entry_at (place + size it) after) (none-it place))
-events-replaced it other same none-it none-other (first ∷ before) after place =
-    ap (λ (l : List (Event Entry)). event_at entry_at place first ++ l) (events-replaced it other same none-it none-other before after (place + size first))
-
--- nor is it when it is sealed
-pub events-sealed : (place batch last : ℕ) (rs : List Record) → batch_at place batch last rs ≡ true → events_at entry_at place (sealed_in place batch last rs) ≡ events_at entry_at place rs
-events-sealed place batch last rs h =
-    let t = split place batch last rs h in
-    ap (events_at entry_at place) t.seals
-    ∙ events-replaced t.it (sealed last t.it) (sealed-size last t.it t.begins) (no-event-begun t.it t.begins) (no-event-sealed last t.it) t.before t.after place
-    ∙ ap (events_at entry_at place) (sym t.is)
+-- behind an append, or behind none
+pub counted-places : (seen : List ℕ) (rs : List Record) (old new : Names) → new ≡ record old { appended = new.appended } → IsAmong seen rs old.gate old.at × IsLooked seen rs old → IsAmong seen rs new.gate new.at × IsLooked seen rs new
+counted-places seen rs old new same (s, k) =
+    let count = new.appended in
+    let later : Names = record old { appended = count } in
+    subst (λ (n : Names). IsAmong seen rs n.gate n.at × IsLooked seen rs n) (sym same) (s, record { looks = looks-alike (placed_in seen rs) old later refl k.looks; among = k.among })
 
 -- ---- what is to be named
 
 abbrev moves : List (ℕ × ℕ) → ℕ → Moves
 moves waiting appended = record { waiting = waiting; appended = appended }
 
--- the same events
-pub moves-same : (seen after : List ℕ) (next later : NextFrame) (old new : Names) → new ≡ old → events_in after ++ events_of later ≡ events_in seen ++ events_of next → moves_in after later new ≡ moves_in seen next old
-moves-same seen after next later old new same events =
-    ap (moves_in after later) same ∙ ap (λ (l : List (Event Entry)). moves (one_or_none old.read ++ from_place old.at (messages_in l)) old.appended) events
+-- the same messages
+pub moves-same : (seen after : List ℕ) (next later : NextFrame) (old new : Names) → new ≡ old → all_messages after later ≡ all_messages seen next → moves_in after later new ≡ moves_in seen next old
+moves-same seen after next later old new same messages =
+    ap (moves_in after later) same ∙ ap (λ (l : List (ℕ × ℕ)). moves (one_or_none old.read ++ from_place old.at l) old.appended) messages
+
+-- a pending record more
+pub messages-more : (seen after : List ℕ) (next later : NextFrame) (r : Record) → after ≡ seen → later.gate ≡ next.gate → later.spilled ≡ next.spilled → records_behind later.buffer.items ≡ records_behind next.buffer.items ++ r ∷ []
+    → all_messages after later ≡ all_messages seen next ++ message_of ((next.gate + 9) + length (body (records_behind next.buffer.items))) r
+messages-more seen after next later r same gate spilled records =
+    let place = (next.gate + 9) + length (body (records_behind next.buffer.items)) in
+    ap (λ (l : List ℕ). messages_in (events_in l ++ pending_in l later.gate later.spilled later.buffer.items)) same
+    ∙ ap (λ n. messages_in (events_in seen ++ pending_in seen n later.spilled later.buffer.items)) gate
+    ∙ ap (λ b. messages_in (events_in seen ++ pending_in seen next.gate b later.buffer.items)) spilled
+    ∙ ap (λ (l : List (Event Entry)). messages_in (events_in seen ++ l)) (waiting-more seen next.gate next.spilled next.buffer.items later.buffer.items r records)
+    ∙ ap messages_in (sym (append_assoc (events_in seen) (pending_of seen next) (pending_event place r)))
+    ∙ messages-append (events_in seen ++ pending_of seen next) (pending_event place r)
+    ∙ ap (λ (l : List (ℕ × ℕ)). all_messages seen next ++ l) (event-messages place r)
+
+-- a change more
+pub messages-changed : (seen after : List ℕ) (next later : NextFrame) (pid : ℕ) (e : Entry) → after ≡ seen → pending_of after later ≡ pending_of seen next ++ Change pid e ∷ [] → all_messages after later ≡ all_messages seen next ++ (pid, offset_in e.place.pointer) ∷ []
+messages-changed seen after next later pid e same pending =
+    ap (λ (l : List ℕ). messages_in (events_in l ++ pending_of after later)) same
+    ∙ ap (λ (l : List (Event Entry)). messages_in (events_in seen ++ l)) pending
+    ∙ ap messages_in (sym (append_assoc (events_in seen) (pending_of seen next) (Change pid e ∷ [])))
+    ∙ messages-append (events_in seen ++ pending_of seen next) (Change pid e ∷ [])
+
+-- one that has no message
+pub moves-marked : (seen after : List ℕ) (next later : NextFrame) (old new : Names) (r : Record) → new ≡ old → after ≡ seen → later.gate ≡ next.gate → later.spilled ≡ next.spilled → records_behind later.buffer.items ≡ records_behind next.buffer.items ++ r ∷ []
+    → ((place : ℕ) → message_of place r ≡ []) → moves_in after later new ≡ moves_in seen next old
+moves-marked seen after next later old new r names same gate spilled records none =
+    moves-same seen after next later old new names
+    (messages-more seen after next later r same gate spilled records ∙ ap (λ (l : List (ℕ × ℕ)). all_messages seen next ++ l) (none ((next.gate + 9) + length (body (records_behind next.buffer.items)))) ∙ append-nil (all_messages seen next))
 
 -- one message more
-pub moves-more : (seen after : List ℕ) (next later : NextFrame) (old new : Names) (kind : MessageKind) (pid : ℕ) (payload : List ℕ)
-    → events_in after ++ events_of later ≡ (events_in seen ++ events_of next) ++ Change pid (placed_entry (message kind payload) (said_of next payload)) ∷ []
+pub moves-more : (seen after : List ℕ) (next later : NextFrame) (old new : Names) (pid : ℕ) → all_messages after later ≡ all_messages seen next ++ (pid, place_of next) ∷ []
     → old.at ≤ place_of next → new.at ≡ old.at → new.read ≡ old.read → new.appended ≡ old.appended + 1
     → moves_in after later new ≡ moves_with (moves_in seen next old) ((pid, place_of next) ∷ [])
-moves-more seen after next later old new kind pid payload events le at read appended =
+moves-more seen after next later old new pid messages le at read appended =
     let was = all_messages seen next in
     let one : List (ℕ × ℕ) = (pid, place_of next) ∷ [] in
-    let messages : all_messages after later ≡ was ++ one = ap messages_in events ∙ messages-append (events_in seen ++ events_of next) (Change pid (placed_entry (message kind payload) (said_of next payload)) ∷ []) in
     let kept : from_place old.at one ≡ one = rw (le-leb old.at (place_of next) le) refl in
     ap (λ n. moves (one_or_none new.read ++ from_place new.at (all_messages after later)) n) appended
     ∙ ap (λ r. moves (one_or_none r ++ from_place new.at (all_messages after later)) (old.appended + 1)) read
     ∙ ap (λ n. moves (one_or_none old.read ++ from_place n (all_messages after later)) (old.appended + 1)) at
     ∙ ap (λ (l : List (ℕ × ℕ)). moves (one_or_none old.read ++ from_place old.at l) (old.appended + 1)) messages
-    ∙ ap (λ (l : List (ℕ × ℕ)). moves (one_or_none old.read ++ l) (old.appended + 1)) (from-append old.at was one ∙ ap (λ (l : List (ℕ × ℕ)). from_place old.at was ++ l) kept)
+    ∙ ap (λ (l : List (ℕ × ℕ)). moves (one_or_none old.read ++ l) (old.appended + 1)) (names-append old.at was one ∙ ap (λ (l : List (ℕ × ℕ)). from_place old.at was ++ l) kept)
     ∙ ap (λ (l : List (ℕ × ℕ)). moves l (old.appended + 1)) (sym (append_assoc (one_or_none old.read) (from_place old.at was) one))
 
 -- a log that was opened
-pub waiting-all : (seen : List ℕ) (next : NextFrame) (names : Names) → names.at ≡ 17 → names.read ≡ None → events_of next ≡ [] → (moves_in seen next names).waiting ≡ messages_in (events_in seen)
-waiting-all seen next names at read none =
-    let frames = or_none (frames_of (drop 8 seen)) in
-    let same : all_messages seen next ≡ messages_in (events_in seen ++ []) = ap (λ (l : List (Event Entry)). messages_in (events_in seen ++ l)) none in
+pub waiting-all : (seen : List ℕ) (next : NextFrame) (names : Names) → names.at ≡ 17 → names.read ≡ None → counting true (placed_in seen (records_behind next.buffer.items)) ≡ messages_in (events_in seen) → pending_of seen next ≡ []
+    → (moves_in seen next names).waiting ≡ messages_in (events_in seen)
+waiting-all seen next names at read counts none =
+    let rs = records_behind next.buffer.items in
+    let same : all_messages seen next ≡ messages_in (events_in seen) = ap (λ (l : List (Event Entry)). messages_in (events_in seen ++ l)) none ∙ ap messages_in (append-nil (events_in seen)) in
     ap (λ r. one_or_none r ++ from_place names.at (all_messages seen next)) read
     ∙ ap (λ n. from_place n (all_messages seen next)) at
-    ∙ ap (from_place 17) same
-    ∙ frames-kept 8 frames [] 17 (omega arith)
-    ∙ ap messages_in (append-nil (events_in seen))
+    ∙ ap (from_place 17) (same ∙ sym counts)
+    ∙ first-names seen rs
+    ∙ counts
 
 -- ---- what is due
 
@@ -146,22 +138,42 @@ due-alike pages every appended xs ys k = elim (cases_lt 0 every) [
   ]
 ]
 
+-- no step, and one more
+pub steps-none : (names : Names) → AreSteps 0 names names
+unfolding AreSteps
+steps-none names = (refl, refl, refl)
+
+pub steps-more : (n : ℕ) (old mid new : Names) → AreSteps n old mid → IsStep mid new → AreSteps (n + 1) old new
+unfolding AreSteps
+steps-more n old mid new steps step = let more : suc n ≡ n + 1 = omega arith in subst (λ k. AreSteps k old new) more (one n steps)
+  where
+    one : (n : ℕ) → AreSteps n old mid → AreSteps (suc n) old new
+    one n steps = (mid, steps, step)
+
+-- steps from the same place
+steps-from : (n : ℕ) (first old new : Names) → old.at ≡ first.at → old.ahead ≡ first.ahead → old.seeks ≡ first.seeks → AreSteps n old new → AreSteps n first new
+unfolding AreSteps
+steps-from zero first old new at ahead seeks (a, b, c) = (a ∙ at, b ∙ ahead, c ∙ seeks)
+steps-from (suc n) first old new at ahead seeks (mid, steps, last) = (mid, steps-from n first old mid at ahead seeks steps, last)
+
+-- what was read behind an append, where there is a message
+pub read-ahead : (first old new : Names) (counts mid now : Counts) (moves : Moves) → IsSought old new mid now moves → moves.waiting ≢ [] → old.at ≡ first.at → old.ahead ≡ first.ahead → old.seeks ≡ first.seeks → counts.failed_reads ≤ mid.failed_reads → IsReadAhead first new counts now
+read-ahead first old new counts mid now moves (inl (inl read)) some at ahead seeks later = inl read
+read-ahead first old new counts mid now moves (inl (inr (inl none))) some at ahead seeks later = absurd (some none)
+read-ahead first old new counts mid now moves (inl (inr (inr grown))) some at ahead seeks later = inr (inl (grown-later counts.failed_reads mid.failed_reads now.failed_reads later grown))
+read-ahead first old new counts mid now moves (inr far) some at ahead seeks later = inr (inr (steps-from most_steps first old new at ahead seeks far))
+
 -- what is due of the message that was read is due of all
-pub due-of-all : (pages every : ℕ) (seen : List ℕ) (next : NextFrame) (first old new : Names) (counts mid now : Counts) (waiting : 0 < every → every ≤ old.appended → IsSought old new mid now (moves_in seen next old)) → new.appended ≡ old.appended → old.at ≡ first.at
-    → counts.failed_reads ≤ mid.failed_reads → (0 < every → (moves_in seen next old).waiting ≢ []) → IsDueOfAll (due_among pages every (read_of new)) (due_among pages every (moves_in seen next new)) first new counts now
-due-of-all pages every seen next first old new counts mid now sought appended at later some = elim (cases_lt 0 every) [
+pub due-of-all : (pages every : ℕ) (seen : List ℕ) (next : NextFrame) (first new : Names) (counts now : Counts) → (0 < every → IsReadAhead first new counts now)
+    → IsDueOfAll (due_among pages every (read_of new)) (due_among pages every (moves_in seen next new)) first new counts now
+due-of-all pages every seen next first new counts now ahead = elim (cases_lt 0 every) [
   | inr none ↦ inl (due-alike pages every new.appended (one_or_none new.read) (moves_in seen next new).waiting (λ lt le. absurd (omega (arith, none, lt))))
-  | inl lt ↦ elim (cases_lt old.appended every) [
-    | inl few ↦ inl (due-alike pages every new.appended (one_or_none new.read) (moves_in seen next new).waiting (λ l le. absurd (omega (arith, few, le, appended))))
-    | inr enough ↦ by lt (sought lt enough)
-  ]
+  | inl lt ↦ by (ahead lt)
 ]
   where
-    by : 0 < every → IsSought old new mid now (moves_in seen next old) → IsDueOfAll (due_among pages every (read_of new)) (due_among pages every (moves_in seen next new)) first new counts now
-    by lt (inl read) = inl (due-alike pages every new.appended (one_or_none new.read) (moves_in seen next new).waiting (λ l le. some-first new.read (from_place new.at (all_messages seen next)) pages read))
-    by lt (inr (inl none)) = absurd (some lt none)
-    by lt (inr (inr (inl grown))) = inr (inl (grown-later counts.failed_reads mid.failed_reads now.failed_reads later grown))
-    by lt (inr (inr (inr far))) = inr (inr (omega (arith, far, at)))
+    by : IsReadAhead first new counts now → IsDueOfAll (due_among pages every (read_of new)) (due_among pages every (moves_in seen next new)) first new counts now
+    by (inl read) = inl (due-alike pages every new.appended (one_or_none new.read) (moves_in seen next new).waiting (λ l le. some-first new.read (from_place new.at (all_messages seen next)) pages read))
+    by (inr others) = inr others
 
 -- behind an append there is one
 pub never-empty : (were : List (ℕ × ℕ)) (one : ℕ × ℕ) (waiting : List (ℕ × ℕ)) → waiting ≡ were ++ one ∷ [] → waiting ≢ []

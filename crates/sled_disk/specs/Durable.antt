@@ -1,16 +1,16 @@
 -- One frame more behind a file's frames.
-use Rattle.std.specs.Prelude.{◌≡◌, ◌+◌, ◌^◌, ◌<◌, ℕ, true, List, [], ◌∷◌, ◌++◌, length, take}
-use Rattle.sled_log.specs.Chains.{chains_after}
+use Rattle.std.specs.Prelude.{◌≡◌, ◌+◌, ◌^◌, ◌<◌, ℕ, Option, Some, List, ◌∷◌, ◌++◌, length, take}
 use Rattle.sled_log.specs.Events.{Event}
 use Rattle.sled_log.specs.Messages.{Entry, effect_of_entry}
-use Rattle.sled_disk.specs.Format.{Frame, body, frame_bytes, IsFrame, are_good, entry_at}
+use Rattle.sled_disk.specs.Format.{Frame, body, frame_bytes, IsFrame, Begun, turns, takes_event, room_for, entry_at}
 
--- The frame may stand behind a gate at that place, where these events were described: its records may stand, and the place of
--- the next gate is none above the greatest i64.
-pub record MayFollow (gate : ℕ) (events : List (Event Entry)) (frame : Frame) : Type 0 where
+-- The frame may stand behind a gate at that place, where these events were described and a batch was begun or not, and then those are:
+-- its records may stand, and the place of the next gate leaves room for the frame that closes a batch.
+pub record MayFollow (gate : ℕ) (events : List (Event Entry)) (begun : Option (Begun Entry)) (frame : Frame) (after : List (Event Entry)) : Type 0 where
   pub fits : IsFrame frame
-  pub good : are_good entry_at effect_of_entry (gate + 9) (chains_after effect_of_entry [] events) frame.records ≡ true
-  pub small : gate + (9 + length (body frame.records)) < 2 ^ 63
+  pub ends_in : Option (Begun Entry)
+  pub says : turns entry_at (takes_event effect_of_entry) (gate + 9) (record { settled = events; begun = begun }) frame.records ≡ Some (record { settled = after; begun = ends_in })
+  pub small : gate + (9 + length (body frame.records)) + room_for ends_in < 2 ^ 63
 
 -- the file where the frame was written over the closed gate at that place, with a closed gate behind it and anything
 abbrev pub IsWritten : ℕ → List ℕ → Frame → List ℕ → Type 0

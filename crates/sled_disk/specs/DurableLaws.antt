@@ -1,13 +1,11 @@
 -- The lemmas on which a durable log stands.
-use Rattle.std.proofs.Common.{◌≡◌, ℕ, ◌+◌, Bool, true, false, List, [], ◌∷◌, ◌++◌, length, take, drop, refl, ap, sym, ◌∙◌, subst, append_assoc, arith}
-use Rattle.std.specs.Prelude.{Option, Some, ◌&&◌}
+use Rattle.std.proofs.Common.{◌≡◌, ℕ, ◌+◌, List, [], ◌∷◌, ◌++◌, length, take, drop, refl, ap, sym, ◌∙◌, append_assoc, arith}
+use Rattle.std.specs.Prelude.{Option, Some, None}
 use Rattle.std.specs.List.{AllByRecursion}
 use Rattle.std.proofs.lemmas.List.{take_at, drop_at, take-append-drop, length-append, append-nil}
-use Rattle.sled_log.specs.Chains.{chains_after}
 use Rattle.sled_log.specs.Events.{Event}
-use Rattle.sled_log.specs.Inside.Laws.{chains_after-append}
 use Rattle.sled_log.specs.Messages.{Entry, effect_of_entry}
-use Rattle.sled_disk.specs.Format.{opening, Frame, number_bytes, body, frame_bytes, frames_bytes, IsFrame, frames_events, events_at, are_good, frames_good, entry_at, DescribesTo, Describes}
+use Rattle.sled_disk.specs.Format.{◌>>=◌, opening, Record, Frame, Begun, Progress, number_bytes, body, frame_bytes, frames_bytes, IsFrame, turns, frames_turns, outside, said_by, takes_event, entry_at, DescribesTo, Describes}
 use Rattle.sled_disk.specs.Reading.{frames_of}
 use Rattle.sled_disk.specs.Durable.{MayFollow, IsWritten}
 use Rattle.sled_disk.specs.FrameLaws.{frames-again}
@@ -24,13 +22,24 @@ frames-found gate bytes events d =
 abbrev found : List Frame → Option (List Frame)
 found frames = Some frames
 
+abbrev said : Progress Entry (List (Event Entry)) → Option (Progress Entry (List (Event Entry)))
+said p = Some p
+
 same_frames : (x y : List Frame) → found x ≡ found y → x ≡ y
 same_frames x y e = cc
+
+-- the events that were said
+abbrev settled_or : List (Event Entry) → Option (Progress Entry (List (Event Entry))) → List (Event Entry)
+settled_or events None = events
+settled_or events (Some p) = p.settled
+
+settled-is : (events others : List (Event Entry)) (begun other : Option (Begun Entry)) → said (record { settled = events; begun = begun }) ≡ said (record { settled = others; begun = other }) → events ≡ others
+settled-is events others begun other e = ap (λ (x : Option (Progress Entry (List (Event Entry)))). settled_or [] x) e
 
 pub one-meaning : (bytes : List ℕ) (events others : List (Event Entry)) → Describes bytes events → Describes bytes others → events ≡ others
 one-meaning bytes events others (gate, d) (other, e) =
     let same = same_frames d.frames e.frames (sym (frames-found gate bytes events d) ∙ frames-found other bytes others e) in
-    d.meaning ∙ ap (frames_events entry_at 8) same ∙ sym e.meaning
+    settled-is events others d.begun e.begun (sym d.meaning ∙ ap said_by same ∙ e.meaning)
 
 -- ---- what stands behind the closed gate
 
@@ -46,8 +55,8 @@ behind-gate gate bytes other events d same =
       rest = drop (gate + 1) other;
       is = sym (take-append-drop (gate + 1) other) ∙ ap (λ (l : List ℕ). l ++ drop (gate + 1) other) (same ∙ shut) ∙ append_assoc front (0 ∷ []) (drop (gate + 1) other);
       place = d.place;
+      begun = d.begun;
       small = d.small;
-      good = d.good;
       meaning = d.meaning;
     }
 
@@ -61,38 +70,25 @@ pub each-append : (xs : List Frame) (y : Frame) → AllByRecursion IsFrame xs �
 each-append [] y h i = (i, tt)
 each-append (x ∷ xs) y h i = (h.0, each-append xs y h.1 i)
 
-events-append : (gate : ℕ) (xs : List Frame) (y : Frame) → frames_events entry_at gate (xs ++ y ∷ []) ≡ frames_events entry_at gate xs ++ events_at entry_at (gate_after gate xs + 9) y.records
-events-append gate [] y = append-nil (events_at entry_at (gate + 9) y.records)
-events-append gate (x ∷ xs) y =
-    let next = gate + (9 + length (body x.records)) in
-    ap (λ (l : List (Event Entry)). events_at entry_at (gate + 9) x.records ++ l) (events-append next xs y)
-    ∙ sym (append_assoc (events_at entry_at (gate + 9) x.records) (frames_events entry_at next xs) (events_at entry_at (gate_after next xs + 9) y.records))
+module _ {E S : Type 0} (said : ℕ → Record → E) (takes : S → ℕ → E → Option S) where
+  handed-on : (x : Option (Progress E S)) → (x >>= λ q. Some q) ≡ x
+  handed-on None = refl
+  handed-on (Some q) = refl
 
-and_true : (a b c : Bool) → a && b ≡ true → (b ≡ true → c ≡ true) → a && c ≡ true
-and_true true b c h k = k h
-and_true false b c h k = h
+  -- what is said with one frame more
+  pub turns-append : (gate : ℕ) (p : Progress E S) (xs : List Frame) (y : Frame) → frames_turns said takes gate p (xs ++ y ∷ []) ≡ (frames_turns said takes gate p xs >>= λ q. turns said takes (gate_after gate xs + 9) q y.records)
+  unfolding frames_turns
+  turns-append gate p [] y = handed-on (turns said takes (gate + 9) p y.records)
+  turns-append gate p (x ∷ xs) y = by (turns said takes (gate + 9) p x.records) (λ q. turns-append (gate + (9 + length (body x.records))) q xs y)
+    where
+      by : (found : Option (Progress E S)) → ((q : Progress E S) → frames_turns said takes (gate + (9 + length (body x.records))) q (xs ++ y ∷ []) ≡ (frames_turns said takes (gate + (9 + length (body x.records))) q xs >>= λ q. turns said takes (gate_after (gate + (9 + length (body x.records))) xs + 9) q y.records))
+          → (found >>= λ q. frames_turns said takes (gate + (9 + length (body x.records))) q (xs ++ y ∷ [])) ≡ ((found >>= λ q. frames_turns said takes (gate + (9 + length (body x.records))) q xs) >>= λ q. turns said takes (gate_after (gate + (9 + length (body x.records))) xs + 9) q y.records)
+      by None next = refl
+      by (Some q) next = next q
 
-and_first : (a b : Bool) → a && b ≡ true → b ≡ true
-and_first true b h = h
-and_first false b h = absurd cc
-
-good-append : (gate : ℕ) (chains : List (List Entry)) (xs : List Frame) (y : Frame) → frames_good entry_at effect_of_entry gate chains xs ≡ true
-    → are_good entry_at effect_of_entry (gate_after gate xs + 9) (chains_after effect_of_entry chains (frames_events entry_at gate xs)) y.records ≡ true → frames_good entry_at effect_of_entry gate chains (xs ++ y ∷ []) ≡ true
-good-append gate chains [] y h i = and_right (are_good entry_at effect_of_entry (gate + 9) chains y.records) i
-  where
-    and_right : (a : Bool) → a ≡ true → a && true ≡ true
-    and_right true h = refl
-    and_right false h = h
-good-append gate chains (x ∷ xs) y h i =
-    let next = gate + (9 + length (body x.records)) in
-    let after = chains_after effect_of_entry chains (events_at entry_at (gate + 9) x.records) in
-    and_true (are_good entry_at effect_of_entry (gate + 9) chains x.records) (frames_good entry_at effect_of_entry next after xs) (frames_good entry_at effect_of_entry next after (xs ++ y ∷ [])) h
-    (λ others. good-append next after xs y others
-    (ap (λ (l : List (List Entry)). are_good entry_at effect_of_entry (gate_after next xs + 9) l y.records) (sym (chains_after-append effect_of_entry chains (events_at entry_at (gate + 9) x.records) (frames_events entry_at next xs))) ∙ i))
-
-pub one-more : (gate : ℕ) (bytes : List ℕ) (events : List (Event Entry)) (frame : Frame) (after : List ℕ) → DescribesTo gate bytes events → MayFollow gate events frame → IsWritten gate bytes frame after
-    → DescribesTo (gate + (9 + length (body frame.records))) after (events ++ events_at entry_at (gate + 9) frame.records)
-one-more gate bytes events frame after d follows (rest, is) =
+pub one-more : (gate : ℕ) (bytes : List ℕ) (events after_events : List (Event Entry)) (frame : Frame) (after : List ℕ) (d : DescribesTo gate bytes events) → MayFollow gate events d.begun frame after_events → IsWritten gate bytes frame after
+    → DescribesTo (gate + (9 + length (body frame.records))) after after_events
+one-more gate bytes events after_events frame after d follows (rest, is) =
     let front = opening ++ frames_bytes d.frames in
     let place = d.place in
     let ends : gate_after 8 d.frames ≡ gate = gate_after-is 8 d.frames ∙ sym (length-append opening (frames_bytes d.frames)) ∙ sym d.place in
@@ -105,11 +101,10 @@ one-more gate bytes events frame after d follows (rest, is) =
       rest = rest;
       is = is ∙ ap (λ (l : List ℕ). l ++ (frame_bytes frame ++ 0 ∷ rest)) kept ∙ sym (append_assoc front (frame_bytes frame) (0 ∷ rest)) ∙ ap (λ (l : List ℕ). l ++ 0 ∷ rest) whole;
       place = omega (arith, ap length whole, length-append front (frame_bytes frame), length-append (number_bytes (length (body frame.records))) (body frame.records), number_bytes-length (length (body frame.records)));
+      begun = follows.ends_in;
       small = follows.small;
-      good = good-append 8 [] d.frames frame d.good
-          (subst (λ (n : ℕ). are_good entry_at effect_of_entry (n + 9) (chains_after effect_of_entry [] (frames_events entry_at 8 d.frames)) frame.records ≡ true) (sym ends)
-          (subst (λ (l : List (Event Entry)). are_good entry_at effect_of_entry (gate + 9) (chains_after effect_of_entry [] l) frame.records ≡ true) d.meaning follows.good));
-      meaning = ap (λ (l : List (Event Entry)). l ++ events_at entry_at (gate + 9) frame.records) d.meaning
-          ∙ ap (λ n. frames_events entry_at 8 d.frames ++ events_at entry_at (n + 9) frame.records) (sym ends)
-          ∙ sym (events-append 8 d.frames frame);
+      meaning = turns-append entry_at (takes_event effect_of_entry) 8 (outside []) d.frames frame
+          ∙ ap (λ (x : Option (Progress Entry (List (Event Entry)))). x >>= λ q. turns entry_at (takes_event effect_of_entry) (gate_after 8 d.frames + 9) q frame.records) d.meaning
+          ∙ ap (λ n. turns entry_at (takes_event effect_of_entry) (n + 9) (record { settled = events; begun = d.begun }) frame.records) ends
+          ∙ follows.says;
     }

@@ -5,8 +5,8 @@ use Rattle.std.specs.List.{AllByRecursion}
 use Rattle.std.proofs.lemmas.Bool.{cases_lt, lt-ltb, le-ltb}
 use Rattle.std.proofs.lemmas.List.{take_at, drop_at, drop-drop, take-append-drop, length-append, length-take, length-drop, get_or-drop, get_or-take, get_or_past}
 use Rattle.std.proofs.lemmas.Nat.{le_bytes_8, from_le_bytes-to_le_bytes_8}
-use Rattle.sled_disk.specs.Format.{Record, number, number_bytes, record_bytes, body, Fits, IsBytes}
-use Rattle.sled_disk.specs.Reading.{◌>>=◌, record_at, records_in, records_of}
+use Rattle.sled_disk.specs.Format.{◌>>=◌, Record, number, number_bytes, record_bytes, body, Fits, IsBytes}
+use Rattle.sled_disk.specs.Reading.{record_at, records_in, records_of}
 use Rattle.sled_disk.specs.RecordLaws.{and_then, records_of-more}
 
 pub IsBytes-drop : (n : ℕ) (bytes : List ℕ) → IsBytes bytes → IsBytes (drop n bytes)

@@ -1,5 +1,5 @@
 -- The disk file: opening bytes, then frames behind open gates, then a closed gate and anything.
-use Rattle.std.specs.Prelude.{◌≡◌, ◌≢◌, ◌+◌, ◌-◌, ◌^◌, ◌<◌, ℕ, pos, Bool, true, false, not, ◌&&◌, ◌==◌, nat_lt, nat_le, List, [], ◌∷◌, ◌++◌, length, get_or, slice_index_or}
+use Rattle.std.specs.Prelude.{◌≡◌, ◌≢◌, ◌+◌, ◌-◌, ◌^◌, ◌<◌, ℕ, pos, Bool, true, false, not, ◌&&◌, ◌||◌, ◌==◌, nat_lt, nat_le, List, [], ◌∷◌, ◌++◌, length, get_or, slice_index_or, Option, Some, None, if◌then◌else◌}
 use Rattle.std.specs.Int.{w64, to_le_bytes, from_le_bytes}
 use Rattle.std.specs.List.{AllByRecursion, list_any}
 use Rattle.sled_base.specs.Kinds.{kind_of, log_kind_of}
@@ -83,13 +83,35 @@ places_from place (r ∷ rs) = place ∷ places_from (place + size r) rs
 abbrev pub stands_in : ℕ → ℕ → List Record → Bool
 stands_in target place rs = list_any (λ p. target == p) (places_from place rs)
 
--- whether a record has the page id and the payload of a batch's mark
-abbrev pub is_mark : Record → Bool
-is_mark r = r.kind == 3 && (r.id == 2 ^ 64 - 667 && length r.payload == 8)
+-- the page id of a record that marks a batch
+abbrev pub mark_id : ℕ
+mark_id = 2 ^ 64 - 667
 
--- whether a record is the mark of a batch, and names a record of its frame that isn't before itself
+-- Whether a record is an old mark of a batch, which lies in one frame: it names a record of the frame that isn't before itself. Nothing
+-- more is said by it.
+abbrev pub is_mark : Record → Bool
+is_mark r = r.kind == 3 && (r.id == mark_id && length r.payload == 8)
+
 abbrev pub marks : ℕ → Record → List Record → Bool
 marks place r rest = is_mark r && stands_in (number r.payload) place (r ∷ rest)
+
+-- whether a record begins a batch, and the one that a log writes
+abbrev pub is_begin : Record → Bool
+is_begin r = r.id == mark_id && length r.payload == 0
+
+abbrev pub begin_record : Record
+begin_record = record { kind = 12; id = mark_id; payload = [] }
+
+-- whether a record of a begun batch closes it, by its kind: it ends (13), it is cancelled (1), or it was abandoned (14)
+abbrev pub is_closing : ℕ → Bool
+is_closing kind = kind == 13 || (kind == 1 || kind == 14)
+
+-- whether a record closes the batch that a record at that place began, and the one that a log writes
+abbrev pub closes_from : ℕ → Record → Bool
+closes_from begin r = r.id == mark_id && (length r.payload == 8 && number r.payload == begin)
+
+abbrev pub closing_record : ℕ → ℕ → Record
+closing_record kind begin = record { kind = kind; id = mark_id; payload = number_bytes begin }
 
 -- for each thing `E` that may be kept of a record that stands at a place
 module _ {E : Type 0} (effect : E → LogKind) where
@@ -102,46 +124,103 @@ module _ {E : Type 0} (effect : E → LogKind) where
   may_change effects.Skip chains id = false
   may_change effects.Corrupted chains id = false
 
-  -- whether a record of a kind may; the last argument says whether it marks a batch
-  abbrev pub may_stand : MessageKind → List (List E) → ℕ → Bool → Bool
-  may_stand kinds.Canceled chains id mark = true
-  may_stand kinds.BatchManifest chains id mark = mark
-  may_stand kind chains id mark = may_change (log_kind_of kind) chains id
+-- whether it is a change of a page
+abbrev pub is_changing : LogKind → Bool
+is_changing effects.Replace = true
+is_changing effects.Free = true
+is_changing effects.Link = true
+is_changing effects.Skip = false
+is_changing effects.Corrupted = false
 
-module _ {E : Type 0} (said : ℕ → Record → E) where
-  -- the event that a record at a place is: none where it changes no page
-  abbrev pub event_by : LogKind → ℕ → Record → List (Event E)
-  event_by effects.Replace place r = Change r.id (said place r) ∷ []
-  event_by effects.Free place r = Change r.id (said place r) ∷ []
-  event_by effects.Link place r = Change r.id (said place r) ∷ []
-  event_by effects.Skip place r = []
-  event_by effects.Corrupted place r = []
+-- ---- from record to record
 
-  abbrev pub event_at : ℕ → Record → List (Event E)
-  event_at place r = event_by (log_kind_of (kind_of r.kind)) place r
+infixl 10 ◌>>=◌
+abbrev pub ◌>>=◌ : {A B : Type 0} → Option A → (A → Option B) → Option B
+None >>= f = None
+(Some x) >>= f = f x
 
-  abbrev pub events_at : ℕ → List Record → List (Event E)
-  events_at place [] = []
-  events_at place (r ∷ rs) = event_at place r ++ events_at (place + size r) rs
+-- a batch that is begun: the place of its first record, and its changes so far, each by its page
+pub record Begun (E : Type 0) : Type 0 where
+  pub place : ℕ
+  pub inside : List (ℕ × E)
 
-  -- the events of frames, the first gate of which stands at a place
-  abbrev pub frames_events : ℕ → List Frame → List (Event E)
-  frames_events gate [] = []
-  frames_events gate (frame ∷ frames) = events_at (gate + 9) frame.records ++ frames_events (gate + (9 + length (body frame.records))) frames
+-- how far a file was read: what counts, and the batch that is begun, if one is
+pub record Progress (E S : Type 0) : Type 0 where
+  pub settled : S
+  pub begun : Option (Begun E)
 
-module _ {E : Type 0} (said : ℕ → Record → E) (effect : E → LogKind) where
-  -- whether each record of a frame may stand where it stands, behind what made these chains
-  abbrev pub are_good : ℕ → List (List E) → List Record → Bool
-  are_good place chains [] = true
-  are_good place chains (r ∷ rs) =
-      may_stand effect (kind_of r.kind) chains r.id (marks place r rs)
-      && are_good (place + size r) (chains_after effect chains (event_at said place r)) rs
+-- outside a batch, and inside one
+abbrev pub outside : {E S : Type 0} → S → Progress E S
+outside s = record { settled = s; begun = None }
 
-  abbrev pub frames_good : ℕ → List (List E) → List Frame → Bool
-  frames_good gate chains [] = true
-  frames_good gate chains (frame ∷ frames) =
-      are_good (gate + 9) chains frame.records
-      && frames_good (gate + (9 + length (body frame.records))) (chains_after effect chains (events_at said (gate + 9) frame.records)) frames
+abbrev pub within : {E S : Type 0} → S → ℕ → List (ℕ × E) → Progress E S
+within s place inside = record { settled = s; begun = Some (record { place = place; inside = inside }) }
+
+-- What is said of a record at a place, and what counts with a change more, if it may come then. Changes in a batch count once the
+-- record comes that ends or cancels it, and not before; if it is abandoned, they never do.
+module _ {E S : Type 0} (said : ℕ → Record → E) (takes : S → ℕ → E → Option S) where
+  abbrev pub taken : S → List (ℕ × E) → Option S
+  taken s [] = Some s
+  taken s (change ∷ changes) = takes s change.0 change.1 >>= λ t. taken t changes
+
+  -- a change outside a batch, and in one
+  abbrev pub counts : LogKind → S → ℕ → E → Option (Progress E S)
+  counts effects.Replace s id e = takes s id e >>= λ t. Some (outside t)
+  counts effects.Free s id e = takes s id e >>= λ t. Some (outside t)
+  counts effects.Link s id e = takes s id e >>= λ t. Some (outside t)
+  counts effects.Skip s id e = None
+  counts effects.Corrupted s id e = None
+
+  abbrev pub waits : LogKind → S → Begun E → ℕ → E → Option (Progress E S)
+  waits effects.Replace s b id e = Some (within s b.place (b.inside ++ (id, e) ∷ []))
+  waits effects.Free s b id e = Some (within s b.place (b.inside ++ (id, e) ∷ []))
+  waits effects.Link s b id e = Some (within s b.place (b.inside ++ (id, e) ∷ []))
+  waits effects.Skip s b id e = None
+  waits effects.Corrupted s b id e = None
+
+  -- a record outside a batch that begins none; the last argument says whether it is an old mark
+  abbrev pub plain : MessageKind → S → ℕ → Record → Bool → Option (Progress E S)
+  plain kinds.Canceled s place r mark = Some (outside s)
+  plain kinds.BatchManifest s place r mark = if mark then Some (outside s) else None
+  plain kind s place r mark = counts (log_kind_of kind) s r.id (said place r)
+
+  abbrev pub turn_outside : S → ℕ → Record → Bool → Option (Progress E S)
+  turn_outside s place r mark =
+      if r.kind == 12 then (if is_begin r then Some (within s place []) else None) else plain (kind_of r.kind) s place r mark
+
+  -- the record that closes a batch
+  abbrev pub closed : ℕ → S → Begun E → Option (Progress E S)
+  closed kind s b = if kind == 14 then Some (outside s) else (taken s b.inside >>= λ t. Some (outside t))
+
+  abbrev pub turn_inside : S → Begun E → ℕ → Record → Option (Progress E S)
+  turn_inside s b place r =
+      if is_closing r.kind then (if closes_from b.place r then closed r.kind s b else None) else waits (log_kind_of (kind_of r.kind)) s b r.id (said place r)
+
+  -- one record more, if it may stand there
+  abbrev pub turn_by : Option (Begun E) → S → ℕ → Record → Bool → Option (Progress E S)
+  turn_by None s place r mark = turn_outside s place r mark
+  turn_by (Some b) s place r mark = turn_inside s b place r
+
+  abbrev pub turn : Progress E S → ℕ → Record → Bool → Option (Progress E S)
+  turn p place r mark = turn_by p.begun p.settled place r mark
+
+  -- the records of a frame, from a place on
+  unfoldable pub turns : ℕ → Progress E S → List Record → Option (Progress E S)
+  turns place p [] = Some p
+  turns place p (r ∷ rs) = turn p place r (marks place r rs) >>= λ q. turns (place + size r) q rs
+
+  -- frames, the first gate of which stands at a place
+  unfoldable pub frames_turns : ℕ → Progress E S → List Frame → Option (Progress E S)
+  frames_turns gate p [] = Some p
+  frames_turns gate p (frame ∷ frames) = turns (gate + 9) p frame.records >>= λ q. frames_turns (gate + (9 + length (body frame.records))) q frames
+
+-- one change more, if it may come: in events, and in the chains that they make
+module _ {E : Type 0} (effect : E → LogKind) where
+  abbrev pub takes_event : List (Event E) → ℕ → E → Option (List (Event E))
+  takes_event events id e = if may_change effect (effect e) (chains_after effect [] events) id then Some (events ++ Change id e ∷ []) else None
+
+  abbrev pub takes_change : List (List E) → ℕ → E → Option (List (List E))
+  takes_change chains id e = if may_change effect (effect e) chains id then Some (chains_after effect chains (Change id e ∷ [])) else None
 
 -- a record as an entry of its page's chain
 abbrev pub entry_at : ℕ → Record → Entry
@@ -149,6 +228,15 @@ entry_at place r = record {
   message = record { kind = kind_of r.kind; payload = r.payload };
   place = record { lsn = pos place; pointer = Inline place; log_size = size r };
 }
+
+-- Behind the last gate of a file that ends inside a batch there is room for the frame that says that it was abandoned.
+abbrev pub room_for : {E : Type 0} → Option (Begun E) → ℕ
+room_for None = 0
+room_for (Some begun) = 34
+
+-- what the frames of a file say in order
+abbrev pub said_by : List Frame → Option (Progress Entry (List (Event Entry)))
+said_by frames = frames_turns entry_at (takes_event effect_of_entry) 8 (outside []) frames
 
 -- The bytes describe these events, and their closed gate stands at this place.
 pub record DescribesTo (gate : ℕ) (bytes : List ℕ) (events : List (Event Entry)) : Type 0 where
@@ -158,10 +246,11 @@ pub record DescribesTo (gate : ℕ) (bytes : List ℕ) (events : List (Event Ent
   pub rest : List ℕ
   pub is : bytes ≡ (opening ++ frames_bytes frames) ++ 0 ∷ rest
   pub place : gate ≡ length (opening ++ frames_bytes frames)
-  pub small : gate < 2 ^ 63
-  pub good : frames_good entry_at effect_of_entry 8 [] frames ≡ true
-  pub meaning : events ≡ frames_events entry_at 8 frames
+  -- a batch in which the file ends counts for nothing
+  pub begun : Option (Begun Entry)
+  pub small : gate + room_for begun < 2 ^ 63
+  pub meaning : said_by frames ≡ Some (record { settled = events; begun = begun })
 
--- THE MEANING OF A FILE. The bytes describe these events in order. Bytes that describe nothing are Corruption.
+-- THE MEANING OF A FILE. The bytes describe these events in order, changes of pages alone. Bytes that describe nothing are Corruption.
 abbrev pub Describes : List ℕ → List (Event Entry) → Type 0
 Describes bytes events = (gate : ℕ) × DescribesTo gate bytes events

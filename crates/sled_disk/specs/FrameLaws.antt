@@ -4,9 +4,8 @@ use Rattle.std.specs.Prelude.{get_or, Option, Some, None, IfSome, ◌==◌, nat_
 use Rattle.std.specs.List.{AllByRecursion}
 use Rattle.std.proofs.lemmas.Bool.{cases_lt, cases_eq, lt-ltb, le-ltb, eq-eqb, ne_eqb}
 use Rattle.std.proofs.lemmas.List.{nil_from_length, take_at, drop_at, take-append-drop, length-append, length-take, length-drop}
-use Rattle.sled_disk.specs.declared.head.Head.{Head}
-use Rattle.sled_disk.specs.Format.{Record, Frame, number, number_bytes, body, frames_bytes, Fits, IsFrame, IsBytes}
-use Rattle.sled_disk.specs.Reading.{◌>>=◌, records_of, body_at, frames_in, frames_of, steps, steps_of, frames_steps, found_at}
+use Rattle.sled_disk.specs.Format.{◌>>=◌, Record, Frame, number, number_bytes, body, frames_bytes, Fits, IsFrame, IsBytes, room_for}
+use Rattle.sled_disk.specs.Reading.{Read, records_of, body_at, frames_in, frames_of, steps, steps_of, frames_steps, found_at}
 use Rattle.sled_disk.specs.EncodingLaws.{IsBytes-drop, IsBytes-take, number-front, number-below, number-at_front, drop-number, number_bytes-length, records-take, records-again}
 
 -- ---- a body behind a gate
@@ -118,33 +117,33 @@ frames_of-torn gate bytes opened is = rw (ne_eqb gate 0 opened, ← is) refl
 
 -- ---- what all bytes from a gate on make
 
-pub found_at-end : (gate : ℕ) (chains : List (List Head)) → found_at gate chains [] ≡ None
+pub found_at-end : (gate : ℕ) (so_far : Read) → found_at gate so_far [] ≡ None
 unfolding frames_of frames_in
-found_at-end gate chains = refl
+found_at-end gate so_far = refl
 
-pub found_at-closed : (at : ℕ) (chains : List (List Head)) (gate : ℕ) (bytes : List ℕ) → gate ≡ 0 → found_at at chains (gate ∷ bytes) ≡ (if nat_lt at (2 ^ 63) then Some (at, chains) else None)
+pub found_at-closed : (at : ℕ) (so_far : Read) (gate : ℕ) (bytes : List ℕ) → gate ≡ 0 → found_at at so_far (gate ∷ bytes) ≡ (if nat_lt (at + room_for so_far.begun) (2 ^ 63) then Some (at, so_far) else None)
 unfolding frames_steps
-found_at-closed at chains gate bytes closed = rw (frames_of-closed gate bytes closed) refl
+found_at-closed at so_far gate bytes closed = rw (frames_of-closed gate bytes closed) refl
 
-pub found_at-torn : (at : ℕ) (chains : List (List Head)) (gate : ℕ) (bytes : List ℕ) → gate ≢ 0 → None ≡ body_at bytes → found_at at chains (gate ∷ bytes) ≡ None
-found_at-torn at chains gate bytes opened is = rw (frames_of-torn gate bytes opened is) refl
+pub found_at-torn : (at : ℕ) (so_far : Read) (gate : ℕ) (bytes : List ℕ) → gate ≢ 0 → None ≡ body_at bytes → found_at at so_far (gate ∷ bytes) ≡ None
+found_at-torn at so_far gate bytes opened is = rw (frames_of-torn gate bytes opened is) refl
 
-pub found_at-refused : (at : ℕ) (chains : List (List Head)) (gate : ℕ) (bytes inside behind : List ℕ) → gate ≢ 0 → Some (inside, behind) ≡ body_at bytes → steps_of (at + 9) chains inside ≡ None → found_at at chains (gate ∷ bytes) ≡ None
+pub found_at-refused : (at : ℕ) (so_far : Read) (gate : ℕ) (bytes inside behind : List ℕ) → gate ≢ 0 → Some (inside, behind) ≡ body_at bytes → steps_of (at + 9) so_far inside ≡ None → found_at at so_far (gate ∷ bytes) ≡ None
 unfolding frames_steps
-found_at-refused at chains gate bytes inside behind opened is refused = rw (frames_of-more gate bytes inside behind opened is) (by (records_of inside) (frames_of behind) refused)
+found_at-refused at so_far gate bytes inside behind opened is refused = rw (frames_of-more gate bytes inside behind opened is) (by (records_of inside) (frames_of behind) refused)
   where
-    by : (records : Option (List Record)) (frames : Option (List Frame)) → (records >>= λ rs. steps (at + 9) chains rs) ≡ None → (framed gate records frames >>= λ fs. frames_steps at chains fs) ≡ None
+    by : (records : Option (List Record)) (frames : Option (List Frame)) → (records >>= λ rs. steps (at + 9) so_far rs) ≡ None → (framed gate records frames >>= λ fs. frames_steps at so_far fs) ≡ None
     by None frames h = refl
     by (Some rs) None h = refl
     by (Some rs) (Some fs) h = rw h refl
 
-pub found_at-taken : (at : ℕ) (chains : List (List Head)) (gate : ℕ) (bytes inside behind : List ℕ) (after : List (List Head)) → gate ≢ 0 → Some (inside, behind) ≡ body_at bytes → IsBytes inside → steps_of (at + 9) chains inside ≡ Some after
-    → found_at at chains (gate ∷ bytes) ≡ found_at (at + (9 + length inside)) after behind
+pub found_at-taken : (at : ℕ) (so_far : Read) (gate : ℕ) (bytes inside behind : List ℕ) (after : Read) → gate ≢ 0 → Some (inside, behind) ≡ body_at bytes → IsBytes inside → steps_of (at + 9) so_far inside ≡ Some after
+    → found_at at so_far (gate ∷ bytes) ≡ found_at (at + (9 + length inside)) after behind
 unfolding frames_steps
-found_at-taken at chains gate bytes inside behind after opened is fits taken = rw (frames_of-more gate bytes inside behind opened is) (by (records_of inside) (λ rs e. (records-take inside rs fits e).0) taken (frames_of behind))
+found_at-taken at so_far gate bytes inside behind after opened is fits taken = rw (frames_of-more gate bytes inside behind opened is) (by (records_of inside) (λ rs e. (records-take inside rs fits e).0) taken (frames_of behind))
   where
-    by : (records : Option (List Record)) → ((rs : List Record) → records ≡ Some rs → inside ≡ body rs) → (records >>= λ rs. steps (at + 9) chains rs) ≡ Some after → (frames : Option (List Frame))
-        → (framed gate records frames >>= λ fs. frames_steps at chains fs) ≡ (frames >>= λ fs. frames_steps (at + (9 + length inside)) after fs)
+    by : (records : Option (List Record)) → ((rs : List Record) → records ≡ Some rs → inside ≡ body rs) → (records >>= λ rs. steps (at + 9) so_far rs) ≡ Some after → (frames : Option (List Frame))
+        → (framed gate records frames >>= λ fs. frames_steps at so_far fs) ≡ (frames >>= λ fs. frames_steps (at + (9 + length inside)) after fs)
     by None whole h frames = absurd cc
     by (Some rs) whole h None = refl
     by (Some rs) whole h (Some fs) = rw h (ap (λ (l : List ℕ). frames_steps (at + (9 + length l)) after fs) (sym (whole rs refl)))
@@ -218,33 +217,33 @@ frames-take bytes frames fits e = frames_in-take (length bytes) bytes frames fit
 
 -- ---- the same of what is left
 
-module _ (at : ℕ) (chains : List (List Head)) where
-  pub left-end : (rest : List ℕ) → length rest < 1 → found_at at chains rest ≡ None
-  left-end [] few = found_at-end at chains
+module _ (at : ℕ) (so_far : Read) where
+  pub left-end : (rest : List ℕ) → length rest < 1 → found_at at so_far rest ≡ None
+  left-end [] few = found_at-end at so_far
   left-end (gate ∷ bytes) few = absurd (omega arith)
 
-  pub left-closed : (rest : List ℕ) → 1 ≤ length rest → get_or rest 0 0 ≡ 0 → at < 2 ^ 63 → found_at at chains rest ≡ Some (at, chains)
+  pub left-closed : (rest : List ℕ) → 1 ≤ length rest → get_or rest 0 0 ≡ 0 → at + room_for so_far.begun < 2 ^ 63 → found_at at so_far rest ≡ Some (at, so_far)
   left-closed [] some closed small = absurd (omega arith)
-  left-closed (gate ∷ bytes) some closed small = found_at-closed at chains gate bytes closed ∙ rw (lt-ltb at (2 ^ 63) small) refl
+  left-closed (gate ∷ bytes) some closed small = found_at-closed at so_far gate bytes closed ∙ rw (lt-ltb (at + room_for so_far.begun) (2 ^ 63) small) refl
 
-  pub left-far : (rest : List ℕ) → 1 ≤ length rest → get_or rest 0 0 ≡ 0 → 2 ^ 63 ≤ at → found_at at chains rest ≡ None
+  pub left-far : (rest : List ℕ) → 1 ≤ length rest → get_or rest 0 0 ≡ 0 → 2 ^ 63 ≤ at + room_for so_far.begun → found_at at so_far rest ≡ None
   left-far [] some closed far = absurd (omega arith)
-  left-far (gate ∷ bytes) some closed far = found_at-closed at chains gate bytes closed ∙ rw (le-ltb at (2 ^ 63) far) refl
+  left-far (gate ∷ bytes) some closed far = found_at-closed at so_far gate bytes closed ∙ rw (le-ltb (at + room_for so_far.begun) (2 ^ 63) far) refl
 
-  pub left-torn : (rest : List ℕ) → 1 ≤ length rest → get_or rest 0 0 ≢ 0 → None ≡ body_at (drop 1 rest) → found_at at chains rest ≡ None
+  pub left-torn : (rest : List ℕ) → 1 ≤ length rest → get_or rest 0 0 ≢ 0 → None ≡ body_at (drop 1 rest) → found_at at so_far rest ≡ None
   left-torn [] some opened is = absurd (omega arith)
-  left-torn (gate ∷ bytes) some opened is = found_at-torn at chains gate bytes opened is
+  left-torn (gate ∷ bytes) some opened is = found_at-torn at so_far gate bytes opened is
 
-  pub left-refused : (rest inside behind : List ℕ) → 1 ≤ length rest → get_or rest 0 0 ≢ 0 → Some (inside, behind) ≡ body_at (drop 1 rest) → steps_of (at + 9) chains inside ≡ None → found_at at chains rest ≡ None
+  pub left-refused : (rest inside behind : List ℕ) → 1 ≤ length rest → get_or rest 0 0 ≢ 0 → Some (inside, behind) ≡ body_at (drop 1 rest) → steps_of (at + 9) so_far inside ≡ None → found_at at so_far rest ≡ None
   left-refused [] inside behind some opened is refused = absurd (omega arith)
-  left-refused (gate ∷ bytes) inside behind some opened is refused = found_at-refused at chains gate bytes inside behind opened is refused
+  left-refused (gate ∷ bytes) inside behind some opened is refused = found_at-refused at so_far gate bytes inside behind opened is refused
 
   pub left-fits : (rest inside behind : List ℕ) → 1 ≤ length rest → Some (inside, behind) ≡ body_at (drop 1 rest) → IsBytes rest → IsBytes inside × IsBytes behind
   left-fits rest inside behind some is fits =
       let t = body_at-takes (drop 1 rest) inside behind (IsBytes-drop 1 rest fits) (sym is) in
       (t.inside_fits, t.rest_fits)
 
-  pub left-taken : (rest inside behind : List ℕ) (after : List (List Head)) → 1 ≤ length rest → get_or rest 0 0 ≢ 0 → Some (inside, behind) ≡ body_at (drop 1 rest) → IsBytes rest → steps_of (at + 9) chains inside ≡ Some after
-      → found_at at chains rest ≡ found_at (at + (9 + length inside)) after behind
+  pub left-taken : (rest inside behind : List ℕ) (after : Read) → 1 ≤ length rest → get_or rest 0 0 ≢ 0 → Some (inside, behind) ≡ body_at (drop 1 rest) → IsBytes rest → steps_of (at + 9) so_far inside ≡ Some after
+      → found_at at so_far rest ≡ found_at (at + (9 + length inside)) after behind
   left-taken [] inside behind after some opened is fits taken = absurd (omega arith)
-  left-taken (gate ∷ bytes) inside behind after some opened is fits taken = found_at-taken at chains gate bytes inside behind after opened is (left-fits (gate ∷ bytes) inside behind some is fits).0 taken
+  left-taken (gate ∷ bytes) inside behind after some opened is fits taken = found_at-taken at so_far gate bytes inside behind after opened is (left-fits (gate ∷ bytes) inside behind some is fits).0 taken

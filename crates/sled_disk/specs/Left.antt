@@ -1,9 +1,8 @@
 -- What is left of a file for a reader that goes from record to record.
 use Rattle.std.specs.Prelude.{ℕ, ◌-◌, Bool, List, take, drop, Option, None, if◌then◌else◌}
 use Rattle.std.specs.List.{list_all}
-use Rattle.sled_disk.specs.declared.head.Head.{Head}
-use Rattle.sled_disk.specs.Format.{Record, stands_in}
-use Rattle.sled_disk.specs.Reading.{◌>>=◌, records_of, steps, found_at}
+use Rattle.sled_disk.specs.Format.{◌>>=◌, Record, stands_in}
+use Rattle.sled_disk.specs.Reading.{Read, records_of, steps, found_at}
 
 -- the bytes from a place up to another
 abbrev pub piece : List ℕ → ℕ → ℕ → List ℕ
@@ -13,9 +12,9 @@ piece bytes from to = take (to - from) (drop from bytes)
 abbrev pub all_stand : List ℕ → ℕ → List Record → Bool
 all_stand targets place rs = list_all (λ target. stands_in target place rs) targets
 
--- What the rest of a file makes of the chains so far: the records up to the end of a frame's body, where each place that marks
+-- What the rest of a file makes of what was read so far: the records up to the end of a frame's body, where each place that marks
 -- before them named has to be, and then the frames behind.
-unfoldable pub left_at : List ℕ → ℕ → ℕ → List ℕ → List (List Head) → Option (ℕ × List (List Head))
-left_at bytes at body_end targets chains =
+unfoldable pub left_at : List ℕ → ℕ → ℕ → List ℕ → Read → Option (ℕ × Read)
+left_at bytes at body_end targets p =
     records_of (piece bytes at body_end) >>= λ rs.
-    if all_stand targets at rs then (steps at chains rs >>= λ after. found_at body_end after (drop body_end bytes)) else None
+    if all_stand targets at rs then (steps at p rs >>= λ q. found_at body_end q (drop body_end bytes)) else None

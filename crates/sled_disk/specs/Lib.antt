@@ -6,6 +6,7 @@ pub mod Pending
 pub mod Waiting
 pub mod Names
 pub mod Cursor
+pub mod Counting
 pub mod Crash
 pub mod Ready
 pub mod Durable
@@ -14,7 +15,9 @@ pub mod Opened
 pub mod Found
 pub mod OnDisk
 pub mod Left
+pub mod TakenBy
 pub mod GoesOn
+pub mod Abandoned
 pub mod Journal
 pub mod DiskMemory
 pub mod CallersFile
@@ -34,5 +37,7 @@ pub mod WholeLaws
 pub mod DurableLaws
 pub mod StandingLaws
 pub mod PendingLaws
+pub mod StepLaws
 pub mod ReadyLaws
+pub mod AbandonedLaws
 pub mod HeadLaws

@@ -1,5 +1,5 @@
 -- The messages that a log on a disk has still to name.
-use Rattle.std.specs.Prelude.{◌≡◌, ◌≢◌, ◌⊎◌, ◌+◌, ◌*◌, ◌≤◌, ℕ, nat_le, Option, Some, None, List, [], ◌∷◌, ◌++◌}
+use Rattle.std.specs.Prelude.{◌≡◌, ◌≢◌, ◌⊎◌, ◌+◌, ◌≤◌, ℕ, zero, suc, ◌==◌, ◌&&◌, nat_lt, Bool, true, false, nat_le, Option, Some, None, List, [], ◌∷◌, ◌++◌, if◌then◌else◌}
 use Rattle.std.specs.List.{filter}
 use Rattle.sled_base.specs.declared.kinds.LogKind.{LogKind}
 use Rattle.sled_base.specs.declared.kinds.LogKind.TheVariants as kinds
@@ -11,8 +11,9 @@ use Rattle.sled_log.specs.Messages.{Entry}
 use Rattle.sled_log.specs.Moves.{Moves}
 use Rattle.sled_disk.specs.declared.names.Names.{Names}
 use Rattle.sled_disk.specs.declared.next_frame.NextFrame.{NextFrame}
+use Rattle.sled_disk.specs.Format.{is_closing}
 use Rattle.sled_disk.specs.Standing.{events_in}
-use Rattle.sled_disk.specs.Waiting.{events_of}
+use Rattle.sled_disk.specs.Waiting.{pending_of}
 
 -- ---- the messages of a log
 
@@ -28,9 +29,10 @@ messages_in (Pin ∷ events) = messages_in events
 messages_in (Seal ∷ events) = messages_in events
 messages_in (Cancel ∷ events) = messages_in events
 
--- those of a file with these bytes, and the pending ones behind them
+-- Those of a file with these bytes, and the pending ones behind them. Those of an open batch are pending, wherever they stand; those of an
+-- abandoned one are none.
 abbrev pub all_messages : List ℕ → NextFrame → List (ℕ × ℕ)
-all_messages seen next = messages_in (events_in seen ++ events_of next)
+all_messages seen next = messages_in (events_in seen ++ pending_of seen next)
 
 -- those that stand at a place or behind it
 abbrev pub from_place : ℕ → List (ℕ × ℕ) → List (ℕ × ℕ)
@@ -61,18 +63,54 @@ named_by kinds.Link page place = (page, place) ∷ []
 named_by kinds.Skip page place = []
 named_by kinds.Corrupted page place = []
 
+-- where the record stands that is looked at next, or its frame ends, and where the gate of that frame stands
+abbrev pub looks_at : Names → ℕ
+looks_at names = if names.seeks then names.ahead else names.at
+
+abbrev pub frame_of : Names → ℕ
+frame_of names = if names.seeks then names.ahead_gate else names.gate
+
+-- Behind a gate, and behind a record of that kind with a payload of so many bytes. The batches that the log began itself are never abandoned.
+abbrev pub behind_gate : Names → ℕ → Names
+behind_gate names gate = if names.seeks then record names { ahead = gate + 9; ahead_gate = gate } else record names { at = gate + 9; gate = gate }
+
+abbrev pub behind_begin : Names → ℕ → Names
+behind_begin names next = record names { at = next; ahead = next; ahead_gate = names.gate; seeks = true }
+
+abbrev pub behind_closing : Names → Bool → ℕ → Names
+behind_closing names abandoned next = if abandoned then record names { at = next; gate = names.ahead_gate; ahead = next; seeks = false } else record names { ahead = next; seeks = false }
+
+abbrev pub behind_record : Names → ℕ → ℕ → Names
+behind_record names kind len =
+    if names.seeks then (if is_closing kind then behind_closing names (kind == 14) (names.ahead + (17 + len)) else record names { ahead = names.ahead + (17 + len) }) else
+    if kind == 12 && nat_lt names.at names.own then behind_begin names (names.at + (17 + len)) else record names { at = names.at + (17 + len) }
+
 -- how many frames and records one call goes over at most to find a message
 abbrev pub most_steps : ℕ
-most_steps = 8
+most_steps = 256
 
--- The place went on as far as so many steps lead at least, of nine bytes each. That it passed over no message is what the moves say.
-abbrev pub IsFarther : Names → Names → Type 0
-IsFarther old new = old.at + 9 * most_steps ≤ new.at
+-- One step: the place went on by a record or a gate, or where the record is sought that closes a batch, the second one did, or it is sought
+-- no more. That no message was passed over is what the moves say.
+abbrev pub IsStep : Names → Names → Type 0
+IsStep old new = (old.at + 9 ≤ new.at) ⊎ ((new.at ≡ old.at) × (old.seeks ≡ true) × ((old.ahead + 9 ≤ new.ahead) ⊎ (new.seeks ≡ false)))
 
--- One of these messages was read, to be named; or there is none, or a read failed, or so many steps were made.
+-- so many steps were made
+unfoldable pub AreSteps : ℕ → Names → Names → Type 0
+AreSteps zero old new = (new.at ≡ old.at) × (new.ahead ≡ old.ahead) × (new.seeks ≡ old.seeks)
+AreSteps (suc n) old new = (mid : Names) × AreSteps n old mid × IsStep mid new
+
+-- One of these messages was read, to be named; or there is none, or a read failed.
+abbrev pub IsFound : Names → Counts → Counts → Moves → Type 0
+IsFound new counts now moves = (one_or_none new.read ≢ []) ⊎ (moves.waiting ≡ []) ⊎ HasGrown counts.failed_reads now.failed_reads
+
+-- Or so many steps were made.
 abbrev pub IsSought : Names → Names → Counts → Counts → Moves → Type 0
-IsSought old new counts now moves = (one_or_none new.read ≢ []) ⊎ (moves.waiting ≡ []) ⊎ HasGrown counts.failed_reads now.failed_reads ⊎ IsFarther old new
+IsSought old new counts now moves = IsFound new counts now moves ⊎ AreSteps most_steps old new
+
+-- Behind an append one was read, whether it is due yet or not; or a read failed, or so many steps were made.
+abbrev pub IsReadAhead : Names → Names → Counts → Counts → Type 0
+IsReadAhead old new counts now = (one_or_none new.read ≢ []) ⊎ HasGrown counts.failed_reads now.failed_reads ⊎ AreSteps most_steps old new
 
 -- What is due is what is due of all messages; or a read failed, or so many steps were made.
 abbrev pub IsDueOfAll : Option (ℕ × ℕ) → Option (ℕ × ℕ) → Names → Names → Counts → Counts → Type 0
-IsDueOfAll due of_all old new counts now = (due ≡ of_all) ⊎ HasGrown counts.failed_reads now.failed_reads ⊎ IsFarther old new
+IsDueOfAll due of_all old new counts now = (due ≡ of_all) ⊎ HasGrown counts.failed_reads now.failed_reads ⊎ AreSteps most_steps old new

@@ -10,12 +10,12 @@ use Rattle.sled_base.specs.declared.types.page_state.PageState.{PageState}
 use Rattle.sled_base.specs.declared.types.page_state.PageState.TheVariants.{Present, Free}
 use Rattle.sled_disk.specs.declared.head.Head.{Head}
 use Rattle.sled_disk.specs.Format.{opening, number}
-use Rattle.sled_disk.specs.Reading.{found_at, entry_in, effect_of_head}
+use Rattle.sled_disk.specs.Reading.{Read, start, found_at, entry_in, effect_of_head}
 
--- These heads, and the closed gate at that place, are read from the bytes.
-pub record AreRead (bytes : List ℕ) (gate : ℕ) (heads : List (List Head)) : Type 0 where
+-- So far the bytes are read, to the closed gate at that place.
+pub record AreRead (bytes : List ℕ) (gate : ℕ) (read : Read) : Type 0 where
   pub opens : take 8 bytes ≡ opening
-  pub found : found_at 8 [] (drop 8 bytes) ≡ Some (gate, heads)
+  pub found : found_at 8 start (drop 8 bytes) ≡ Some (gate, read)
 
 -- the chains that heads of these bytes stand for
 abbrev pub entries_in : List ℕ → List (List Head) → List Chain

@@ -1,9 +1,11 @@
 -- Reading a file's bytes from left to right.
-use Rattle.std.specs.Prelude.{◌≡◌, ◌+◌, ◌^◌, ℕ, pos, zero, suc, Bool, false, ◌==◌, nat_lt, List, [], ◌∷◌, length, take, drop, map, Option, Some, None, Result, Ok, Err, if◌then◌else◌}
+use Rattle.std.specs.Prelude.{◌≡◌, ◌+◌, ◌^◌, ℕ, pos, zero, suc, Bool, true, ◌==◌, nat_lt, List, [], ◌∷◌, length, take, drop, map, Option, Some, None, Result, Ok, Err, if◌then◌else◌}
 use Rattle.std.specs.Global.{Vec}
 use Rattle.sled_base.specs.Kinds.{kind_of, log_kind_of}
 use Rattle.sled_base.specs.declared.kinds.LogKind.{LogKind}
 use Rattle.sled_base.specs.declared.kinds.LogKind.TheVariants as effects
+use Rattle.sled_base.specs.declared.kinds.MessageKind.{MessageKind}
+use Rattle.sled_base.specs.declared.kinds.MessageKind.TheVariants as kinds
 use Rattle.sled_base.specs.declared.types.DiskPtr.TheVariants.{Inline}
 use Rattle.sled_log.specs.Chains.{chains_after}
 use Rattle.sled_log.specs.Events.{Event, Change}
@@ -12,12 +14,7 @@ use Rattle.sled_log.specs.declared.log.LogError.{LogError}
 use Rattle.sled_log.specs.declared.log.LogError.TheVariants.{Memory, Full, ReadFault, WriteFault, Corruption}
 use Rattle.sled_disk.specs.declared.head.Head.{Head}
 use Rattle.sled_disk.specs.declared.reading.RawHead.{RawHead}
-use Rattle.sled_disk.specs.Format.{Record, Frame, number, size, body, marks, may_stand, event_at, DescribesTo}
-
-infixl 10 ◌>>=◌
-abbrev pub ◌>>=◌ : {A B : Type 0} → Option A → (A → Option B) → Option B
-None >>= f = None
-(Some x) >>= f = f x
+use Rattle.sled_disk.specs.Format.{Record, Frame, number, body, may_change, ◌>>=◌, Progress, outside, room_for, takes_change, turn, turns, DescribesTo}
 
 -- ---- records and frames
 
@@ -65,9 +62,16 @@ head_at place r = record { kind = kind_of r.kind; place = place; len = length r.
 abbrev pub effect_of_head : Head → LogKind
 effect_of_head head = log_kind_of head.kind
 
--- the chains behind a record, if it may stand there
-unfoldable pub step : List (List Head) → ℕ → Record → Bool → Option (List (List Head))
-step chains place r mark = if may_stand effect_of_head (kind_of r.kind) chains r.id mark then Some (chains_after effect_of_head chains (event_at head_at place r)) else None
+-- how far the code has read, and where it begins
+abbrev pub Read : Type 0
+Read = Progress Head (List (List Head))
+
+abbrev pub start : Read
+start = outside []
+
+-- one record more, if it may stand there; the last argument says whether it is an old mark of a batch
+unfoldable pub step : Read → ℕ → Record → Bool → Option Read
+step p place r mark = turn head_at (takes_change effect_of_head) p place r mark
 
 -- the event that a head of a page is
 abbrev pub event_of : LogKind → ℕ → Head → List (Event Head)
@@ -77,26 +81,30 @@ event_of effects.Link id head = Change id head ∷ []
 event_of effects.Skip id head = []
 event_of effects.Corrupted id head = []
 
--- the chains behind a record that marks no batch, by its page and the head that is kept of it, if it may stand there
+-- whether a record that marks no batch may stand behind what made these chains
+abbrev pub may_stand : MessageKind → List (List Head) → ℕ → Bool
+may_stand kinds.Canceled chains id = true
+may_stand kind chains id = may_change effect_of_head (log_kind_of kind) chains id
+
+-- the chains behind such a record, by its page and the head that is kept of it
 unfoldable pub step_head : List (List Head) → ℕ → Head → Option (List (List Head))
-step_head chains id head = if may_stand effect_of_head head.kind chains id false then Some (chains_after effect_of_head chains (event_of (effect_of_head head) id head)) else None
+step_head chains id head = if may_stand head.kind chains id then Some (chains_after effect_of_head chains (event_of (effect_of_head head) id head)) else None
 
-unfoldable pub steps : ℕ → List (List Head) → List Record → Option (List (List Head))
-steps place chains [] = Some chains
-steps place chains (r ∷ rs) = step chains place r (marks place r rs) >>= λ after. steps (place + size r) after rs
+abbrev pub steps : ℕ → Read → List Record → Option Read
+steps place p rs = turns head_at (takes_change effect_of_head) place p rs
 
--- the chains behind all bytes of a body
-abbrev pub steps_of : ℕ → List (List Head) → List ℕ → Option (List (List Head))
-steps_of place chains bytes = records_of bytes >>= λ rs. steps place chains rs
+-- behind all bytes of a body
+abbrev pub steps_of : ℕ → Read → List ℕ → Option Read
+steps_of place p bytes = records_of bytes >>= λ rs. steps place p rs
 
--- the place of the closed gate, and the chains, if each record may stand where it stands
-unfoldable pub frames_steps : ℕ → List (List Head) → List Frame → Option (ℕ × List (List Head))
-frames_steps gate chains [] = if nat_lt gate (2 ^ 63) then Some (gate, chains) else None
-frames_steps gate chains (frame ∷ frames) = steps (gate + 9) chains frame.records >>= λ after. frames_steps (gate + (9 + length (body frame.records))) after frames
+-- the place of the closed gate, and how far was read, if each record may stand where it stands
+unfoldable pub frames_steps : ℕ → Read → List Frame → Option (ℕ × Read)
+frames_steps gate p [] = if nat_lt (gate + room_for p.begun) (2 ^ 63) then Some (gate, p) else None
+frames_steps gate p (frame ∷ frames) = steps (gate + 9) p frame.records >>= λ q. frames_steps (gate + (9 + length (body frame.records))) q frames
 
 -- what all bytes from a gate on make
-abbrev pub found_at : ℕ → List (List Head) → List ℕ → Option (ℕ × List (List Head))
-found_at gate chains bytes = frames_of bytes >>= λ frames. frames_steps gate chains frames
+abbrev pub found_at : ℕ → Read → List ℕ → Option (ℕ × Read)
+found_at gate p bytes = frames_of bytes >>= λ frames. frames_steps gate p frames
 
 -- ---- what the code does
 

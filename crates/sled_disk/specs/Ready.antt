@@ -1,10 +1,11 @@
 -- A log on a disk that may be called.
-use Rattle.std.specs.Prelude.{◌≡◌, ◌⊎◌, ◌+◌, ◌≤◌, ◌^◌, true, ℕ, List, [], ◌++◌, map, length}
+use Rattle.std.specs.Prelude.{◌≡◌, ◌⊎◌, ◌+◌, ◌≤◌, ◌^◌, Bool, true, ℕ, List, [], map, length}
 use Rattle.sled_log.specs.Chains.{chains_after}
 use Rattle.sled_log.specs.Events.{Event}
 use Rattle.sled_log.specs.LogState.{LogState}
 use Rattle.sled_log.specs.Messages.{Messages, Entry, messages_of, effect_of_entry}
 use Rattle.sled_disk.specs.Format.{Describes}
+use Rattle.sled_disk.specs.Pending.{room_after}
 
 -- The bytes describe no other pages than these.
 abbrev pub Means : List ℕ → List Messages → Type 0
@@ -19,11 +20,22 @@ LeavesPages left pages = (bytes : List ℕ) × left bytes × Means bytes pages
 abbrev pub IsLogOf : List ℕ → LogState Entry → Type 0
 IsLogOf bytes state = (events : List (Event Entry)) × Describes bytes events × (state ≡ record { stable = chains_after effect_of_entry [] events; pending = []; usable = true })
 
--- the file describes these events, with the new ones or without
-abbrev pub IsBeforeOrAfter : List (Event Entry) → List (Event Entry) → List ℕ → Type 0
-IsBeforeOrAfter stable new bytes = Describes bytes stable ⊎ Describes bytes (stable ++ new)
+-- the file describes these events, or those
+abbrev pub IsEither : List (Event Entry) → List (Event Entry) → List ℕ → Type 0
+IsEither before after bytes = Describes bytes before ⊎ Describes bytes after
 
--- a log of a file with a gate there, and such a buffer, has no room for a message with a payload of so many bytes: the place of
--- the next gate would be above the greatest i64
-abbrev pub IsFull : ℕ → List ℕ → ℕ → Type 0
-IsFull gate buffer n = 2 ^ 63 ≤ gate + length buffer + 18 + n
+-- the first bytes describe events, and the others the same
+abbrev pub SameMeaning : List ℕ → List ℕ → Type 0
+SameMeaning bytes left = (events : List (Event Entry)) × Describes bytes events × Describes left events
+
+-- The disk was written at most so that each crash state that was added describes what a read gave, which describes something; and none is forgotten.
+pub record LeavesTheMeaning {D : Type 0} (tells : Type 0) (seen : D → List ℕ) (may_leave : D → List ℕ → Type 0) (moment : D → ℕ) (left_since : D → ℕ → List ℕ → Type 0) (old new : D) : Type 0 where
+  pub may : tells → (left : List ℕ) → may_leave new left → may_leave old left ⊎ SameMeaning (seen old) left
+  pub later : tells → moment old ≤ moment new
+  pub nothing_else : tells → (t : ℕ) (left : List ℕ) → t ≤ moment old → left_since new t left → left_since old t left ⊎ SameMeaning (seen old) left
+  pub kept : tells → (t : ℕ) (left : List ℕ) → t ≤ moment old → left_since old t left → left_since new t left
+
+-- A log of a file with a gate there, and such a buffer, has no room for a message with a payload of so many bytes: the place of
+-- the next gate would be above the greatest i64, or where a batch is open then, the one behind the frame that closes it.
+abbrev pub IsFull : ℕ → List ℕ → Bool → ℕ → Type 0
+IsFull gate buffer batch n = 2 ^ 63 ≤ gate + length buffer + 18 + n + room_after batch

@@ -1,30 +1,28 @@
 -- What follows of a log that may be called.
-use Rattle.std.proofs.Common.{◌≡◌, ℕ, ◌+◌, ◌≤◌, ◌<◌, Bool, List, [], ◌∷◌, ◌++◌, length, map, drop, get_or, refl, ap, sym, ◌∙◌, subst, append_assoc, arith}
-use Rattle.std.specs.Prelude.{Some}
-use Rattle.std.proofs.lemmas.Bool.{eq-eqb}
+use Rattle.std.proofs.Common.{◌≡◌, ℕ, ◌≤◌, ◌<◌, Bool, true, false, List, [], ◌∷◌, ◌++◌, length, map, drop, get_or, refl, ap, sym, ◌∙◌, subst, append_assoc, arith}
+use Rattle.std.specs.Prelude.{Option, Some, None}
+use Rattle.std.specs.List.{list_all}
 use Rattle.std.proofs.lemmas.List.{drop_all, get_or_at, length-append, length-map}
 use Rattle.std.specs.Global.{Vec}
 use Rattle.sled_log.specs.Chains.{chains_after}
 use Rattle.sled_log.specs.Events.{Event}
-use Rattle.sled_log.specs.Inside.Laws.{IsFair-none, chains_after-append}
+use Rattle.sled_log.specs.Inside.Laws.{IsFair-none}
 use Rattle.sled_log.specs.Inside.MovesLaws.{due_within}
 use Rattle.sled_log.specs.Moves.{Moves, due_among}
 use Rattle.sled_log.specs.LogState.{now, IsLeft, unplaced_state}
 use Rattle.sled_log.specs.Messages.{Message, Messages, Entry, messages_of, effect_of, effect_of_entry}
 use Rattle.sled_disk.specs.declared.head.Head.{Head}
-use Rattle.sled_disk.specs.declared.mark.Mark.{Mark}
 use Rattle.sled_disk.specs.Crash.{IsClosed}
 use Rattle.sled_disk.specs.Disk.{Only}
 use Rattle.sled_disk.specs.DurableLaws.{one-meaning}
 use Rattle.sled_disk.specs.EncodingLaws.{number_bytes-length}
-use Rattle.sled_disk.specs.Format.{opening, body, number_bytes, Record, frames_bytes, Describes, DescribesTo, IsBytes, events_at, entry_at}
+use Rattle.sled_disk.specs.Format.{opening, body, number_bytes, Record, frames_bytes, Describes, DescribesTo, IsBytes, Begun}
 use Rattle.sled_disk.specs.Opened.{AreRead}
-use Rattle.sled_disk.specs.Pending.{count, state_in}
-use Rattle.sled_disk.specs.PendingLaws.{pending-chains}
-use Rattle.sled_disk.specs.Reading.{chains_of, entry_in, records_in, records_of, steps}
+use Rattle.sled_disk.specs.Pending.{is_own, state_in}
+use Rattle.sled_disk.specs.Reading.{Read, chains_of, entry_in, records_in, records_of}
 use Rattle.sled_disk.specs.Ready.{Means, LeavesPages}
 use Rattle.sled_disk.specs.Standing.{events_in, records_behind, Stands}
-use Rattle.sled_disk.specs.StandingLaws.{parsed, described, place-is, heads-stand}
+use Rattle.sled_disk.specs.StandingLaws.{parsed, stands, described, place-is, heads-stand, file-read, file-parsed}
 
 -- a buffer of 8 bytes has no records
 pub none-parsed : (buffer : List ℕ) → length buffer ≤ 8 → records_of (drop 8 buffer) ≡ Some []
@@ -34,23 +32,26 @@ none-parsed buffer le = ap records_of (drop_all 8 buffer le)
 pub none-behind : (buffer : List ℕ) → length buffer ≤ 8 → records_behind buffer ≡ []
 none-behind buffer le = rw (none-parsed buffer le) refl
 
--- what was read stands, with no records behind it
-pub read-stands : (seen : List ℕ) (gate : ℕ) (heads : List (List Head)) → AreRead seen gate heads → Stands seen gate [] heads
-unfolding steps
-read-stands seen gate heads read = record { opens = read.opens; made = rw (read.found, eq-eqb gate gate refl) refl }
+-- what was read to its end outside a batch stands, with no records behind it
+pub read-stands : (seen : List ℕ) (gate : ℕ) (read : Read) → IsBytes seen → AreRead seen gate read → read.begun ≡ None → Stands seen gate false [] None read.settled
+read-stands seen gate read fits are closed = by read.begun closed refl
+  where
+    by : (begun : Option (Begun Head)) → begun ≡ None → read.begun ≡ begun → Stands seen gate false [] None read.settled
+    by None none is = stands seen gate false [] None read.settled (file-parsed seen gate read (file-read seen gate read fits are.opens are.found) read.settled None (rw is refl) (rw is refl))
+    by (Some b) none is = absurd cc
 
-module _ (seen : List ℕ) (gate : ℕ) (rs : List Record) (heads : List (List Head)) (fits : IsBytes seen) (s : Stands seen gate rs heads) where
+module _ (seen : List ℕ) (gate : ℕ) (spilled : Bool) (rs : List Record) (batch : Option ℕ) (heads : List (List Head)) (fits : IsBytes seen) (s : Stands seen gate spilled rs batch heads) where
   -- the file is described
   pub stands-described : DescribesTo gate seen (events_in seen)
-  stands-described = described seen gate rs heads (parsed seen gate rs heads fits s)
+  stands-described = described seen gate spilled rs batch heads (parsed seen gate spilled rs batch heads fits s)
 
   -- its gate is closed
   pub stands-closed : IsClosed gate seen
   stands-closed =
-      let p = parsed seen gate rs heads fits s in
+      let p = parsed seen gate spilled rs batch heads fits s in
       let front = opening ++ frames_bytes p.frames in
       let file : seen ≡ front ++ 0 ∷ p.rest = p.is ∙ sym (append_assoc opening (frames_bytes p.frames) (0 ∷ p.rest)) in
-      let at = place-is seen gate rs heads p in
+      let at = place-is seen gate spilled rs batch heads p in
       record {
         within = let e = ap length file in omega (arith, e, at, length-append front (0 ∷ p.rest));
         closed = ap (λ (l : List ℕ). get_or l gate 1) file ∙ get_or_at front 0 p.rest 1 gate at;
@@ -75,25 +76,24 @@ module _ (seen : List ℕ) (gate : ℕ) (rs : List Record) (heads : List (List H
 
 -- ---- the laws of a log at rest
 
-module _ (seen : List ℕ) (gate : ℕ) (rs : List Record) (heads : List (List Head)) (fits : IsBytes seen) (s : Stands seen gate rs heads) where
+module _ (seen : List ℕ) (gate : ℕ) (spilled : Bool) (rs : List Record) (batch : Option ℕ) (heads : List (List Head)) (fits : IsBytes seen) (s : Stands seen gate spilled rs batch heads) where
   pub log-keeps : (left : List ℕ → Type 0) → left seen → LeavesPages left (map messages_of (chains_after effect_of_entry [] (events_in seen)))
-  log-keeps left may = ready-keeps seen gate rs heads fits s left may
+  log-keeps left may = ready-keeps seen gate spilled rs batch heads fits s left may
 
-  pub log-only : (marks : List Mark) (buffer : List ℕ) (usable : Bool) (may_leave : List ℕ → Type 0) → Only seen may_leave → (pages : List Messages) → LeavesPages may_leave pages → IsLeft effect_of (unplaced_state (state_in seen gate marks buffer usable)) [] pages
-  log-only marks buffer usable may_leave only pages left =
-      let pending : List (Event Message) = (unplaced_state (state_in seen gate marks buffer usable)).pending in
-      record { came = []; beginning = ([], refl); cut = 0; fair = IsFair-none (pending ++ []); is = ready-only seen gate rs heads fits s may_leave only pages left }
+  pub log-only : (ends : Bool) (buffer : List ℕ) (usable : Bool) (may_leave : List ℕ → Type 0) → Only seen may_leave → (pages : List Messages) → LeavesPages may_leave pages → IsLeft effect_of (unplaced_state (state_in seen gate ends buffer usable)) [] pages
+  log-only ends buffer usable may_leave only pages left =
+      let pending : List (Event Message) = (unplaced_state (state_in seen gate ends buffer usable)).pending in
+      record { came = []; beginning = ([], refl); cut = 0; fair = IsFair-none (pending ++ []); is = ready-only seen gate spilled rs batch heads fits s may_leave only pages left }
 
 -- what is due is of a page that the log holds
-pub log-due : (seen : List ℕ) (gate : ℕ) (ms : List Mark) (buffer : List ℕ) (usable : Bool) (pages : List (Vec Head)) → IsBytes seen → Stands seen gate (records_behind buffer) (chains_of pages) → count ms ≡ length (records_behind buffer)
-    → (every : ℕ) (moves : Moves) (pid place : ℕ) → due_among (length pages) every moves ≡ Some (pid, place) → pid < length (now effect_of_entry (state_in seen gate ms buffer usable))
-log-due seen gate ms buffer usable pages fits s counted every moves pid place is =
+pub log-due : (seen : List ℕ) (gate : ℕ) (spilled : Bool) (buffer : List ℕ) (usable : Bool) (batch : Option ℕ) (pages : List (Vec Head)) → IsBytes seen → Stands seen gate spilled (records_behind buffer) batch (chains_of pages) → list_all is_own (records_behind buffer) ≡ true
+    → (every : ℕ) (moves : Moves) (pid place : ℕ) → due_among (length pages) every moves ≡ Some (pid, place) → pid < length (now effect_of_entry (state_in seen gate spilled buffer usable))
+log-due seen gate spilled buffer usable batch pages fits s own every moves pid place is =
     let heads : List (List Head) = chains_of pages in
     let rs = records_behind buffer in
-    let p = parsed seen gate rs heads fits s in
+    let p = parsed seen gate spilled rs batch heads fits s in
     let bytes = opening ++ (frames_bytes p.frames ++ 0 ∷ (number_bytes 0 ++ body rs)) in
-    let held = heads-stand seen gate rs heads p bytes (number_bytes 0) (number_bytes-length 0) refl in
-    let pending = pending-chains (chains_after effect_of_entry [] (events_in seen)) (gate + 9) ms rs counted ∙ sym (chains_after-append effect_of_entry [] (events_in seen) (events_at entry_at (gate + 9) rs)) in
-    let long = ap length (held ∙ sym pending) in
+    let held = heads-stand seen gate spilled rs batch heads p bytes (number_bytes 0) (number_bytes-length 0) refl own in
+    let long = ap length held in
     let within = due_within (length pages) every moves pid place is in
     omega (arith, length-map heads (map (entry_in bytes)), length-map pages (λ (v : Vec Head). v.items), long, within)

@@ -3,8 +3,8 @@ use Rattle.std.proofs.Common.{◌≡◌, ℕ, zero, suc, ◌+◌, ◌≤◌, Lis
 use Rattle.std.specs.Prelude.{Option, Some, None, IfSome}
 use Rattle.std.proofs.lemmas.Bool.{cases_lt, lt-ltb, le-ltb}
 use Rattle.std.proofs.lemmas.List.{length-drop, length-take}
-use Rattle.sled_disk.specs.Format.{Record, number, size}
-use Rattle.sled_disk.specs.Reading.{◌>>=◌, record_at, records_in, records_of}
+use Rattle.sled_disk.specs.Format.{◌>>=◌, Record, number, size}
+use Rattle.sled_disk.specs.Reading.{record_at, records_in, records_of}
 
 -- a record at the front of bytes, and those behind it
 abbrev pub Whole : List ℕ → Option (Record × List ℕ) → Type 0

@@ -1,162 +1,250 @@
 -- What follows of a file and the records behind it.
 use Rattle.std.proofs.Common.{◌≡◌, ◌≢◌, ℕ, ◌+◌, ◌^◌, ◌<◌, Bool, true, false, List, [], ◌∷◌, ◌++◌, length, map, take, drop, refl, ap, sym, ◌∙◌, subst, append_assoc, arith}
-use Rattle.std.specs.Prelude.{Option, Some, None, ◌&&◌, ◌||◌, ◌==◌, nat_lt, if◌then◌else◌}
-use Rattle.std.specs.List.{AllByRecursion}
-use Rattle.std.proofs.lemmas.Bool.{lt-ltb, ltb-true, eqb-true, eq-eqb}
+use Rattle.std.specs.Prelude.{Option, Some, None, ◌&&◌, ◌||◌, ◌==◌, if◌then◌else◌}
+use Rattle.std.specs.List.{AllByRecursion, list_all}
+use Rattle.std.proofs.lemmas.Bool.{lt-ltb, eqb-true, eq-eqb}
 use Rattle.std.proofs.lemmas.List.{take_at, drop_at, take-append-drop, length-append, append-nil}
 use Rattle.sled_base.specs.Kinds.{kind_of}
 use Rattle.sled_base.specs.declared.kinds.MessageKind.{MessageKind}
 use Rattle.sled_base.specs.declared.kinds.MessageKind.TheVariants as kinds
 use Rattle.sled_log.specs.Chains.{chains_after}
+use Rattle.sled_log.specs.Events.{Change}
 use Rattle.sled_log.specs.Inside.Laws.{chains_after-append}
-use Rattle.sled_log.specs.Messages.{Chain, effect_of_entry}
+use Rattle.sled_log.specs.Messages.{Chain, Entry, effect_of_entry}
 use Rattle.sled_disk.specs.declared.head.Head.{Head}
-use Rattle.sled_disk.specs.Format.{opening, Record, Fits, Frame, IsFrame, size, number, number_bytes, record_bytes, body, frame_bytes, frames_bytes, is_mark, stands_in, marks, may_stand, event_at, events_at, frames_events, are_good, frames_good, entry_at, DescribesTo, IsBytes}
-use Rattle.sled_disk.specs.Reading.{◌>>=◌, frames_of, frames_steps, found_at, step, steps, head_at, effect_of_head, entry_in}
+use Rattle.sled_disk.specs.Format.{◌>>=◌, opening, Record, Fits, Frame, IsFrame, Begun, outside, size, number, number_bytes, record_bytes, body, frame_bytes, frames_bytes, is_mark, is_begin, stands_in, marks, taken, turns, turn, turn_by, plain, within, frames_turns, takes_change, takes_event, may_change, said_by, room_for, entry_at, DescribesTo, IsBytes}
+use Rattle.sled_disk.specs.Reading.{Read, start, frames_of, frames_steps, found_at, step, steps, head_at, effect_of_head, entry_in}
 use Rattle.sled_disk.specs.Durable.{MayFollow, IsWritten}
-use Rattle.sled_disk.specs.DurableLaws.{frames_bytes-append, each-append}
-use Rattle.sled_disk.specs.FrameLaws.{AreFrames, frames-take, frames-again, found}
-use Rattle.sled_disk.specs.MeaningLaws.{heads_after, gate_after, gate_after-is, steps-good, frames_steps-good, AreSeen, FramesSeen, are_seen, frames_seen, are_good-seen, frames_good-seen, chains-seen, after-seen, events_at-seen, record_bytes-length}
+use Rattle.sled_disk.specs.DurableLaws.{frames_bytes-append, each-append, turns-append}
+use Rattle.sled_disk.specs.FrameLaws.{frames-take, frames-again, found}
+use Rattle.sled_disk.specs.MeaningLaws.{gate_after, gate_after-is, frames_steps-are, AreSeen, are_seen, frames_seen, IsMeant, StandsFor, Meant, Made, made_of, made_in, meant_turns, frames-meant, turns-meant, same-room, same-chains, seen_option, taken-seen, takes_change-seen, record_bytes-length}
 use Rattle.sled_disk.specs.EncodingLaws.{IsBytes-drop, number_bytes-length}
-use Rattle.sled_disk.specs.Standing.{or_none, events_in, Stands, whole}
-use Rattle.sled_disk.specs.WholeLaws.{both-true}
+use Rattle.sled_disk.specs.Pending.{changes, batch_events, pending_events, is_own}
+use Rattle.sled_disk.specs.PendingLaws.{settles, open_events}
+use Rattle.sled_disk.specs.Standing.{bool_eq, or_none, or_start, progress_in, events_in, inside_in, inside_of, is_begun, begins_at, chains_now, progress_then, Stands}
+use Rattle.sled_disk.specs.WholeLaws.{if-true, AreStepped, stepped}
 
 -- ---- the frames, taken apart
 
 -- a file of these frames, and what they and the records make
-pub record Parsed (seen : List ℕ) (gate : ℕ) (rs : List Record) (heads : List (List Head)) : Type 0 where
+pub record Parsed (seen : List ℕ) (gate : ℕ) (spilled : Bool) (rs : List Record) (batch : Option ℕ) (heads : List (List Head)) : Type 0 where
   pub frames : List Frame
   pub each : AllByRecursion IsFrame frames
   pub rest : List ℕ
   pub is : seen ≡ opening ++ (frames_bytes frames ++ 0 ∷ rest)
-  pub before : List (List Head)
-  pub opened : frames_steps 8 [] frames ≡ Some (gate, before)
-  pub made : steps (gate + 9) before rs ≡ Some heads
+  pub before : Read
+  pub opened : frames_steps 8 start frames ≡ Some (gate, before)
+  pub begun : is_begun before.begun ≡ spilled
+  pub last : Read
+  pub made : steps (gate + 9) before rs ≡ Some last
+  pub ends : begins_at batch last.begun ≡ true
+  pub all : chains_now last ≡ Some heads
 
 some_is : {A : Type 0} (x y : A) → found x ≡ found y → x ≡ y
 some_is x y e = cc
 
-pub parsed : (seen : List ℕ) (gate : ℕ) (rs : List Record) (heads : List (List Head)) → IsBytes seen → Stands seen gate rs heads → Parsed seen gate rs heads
-parsed seen gate rs heads fits s = by (frames_of (drop 8 seen)) (λ frames is. frames-take (drop 8 seen) frames (IsBytes-drop 8 seen fits) is) s.made
-  where
-    parts : (frames : List Frame) → AreFrames (drop 8 seen) frames → (at : ℕ) (before : List (List Head)) → frames_steps 8 [] frames ≡ Some (at, before) → (b : Bool) → at == gate ≡ b → (if b then steps (gate + 9) before rs else None) ≡ Some heads → Parsed seen gate rs heads
-    parts frames w at before opened true same made =
-        let at_gate : at ≡ gate = eqb-true at gate same in
-        record {
-          frames = frames;
-          each = w.each;
-          rest = w.rest;
-          is = sym (take-append-drop 8 seen) ∙ ap (λ (l : List ℕ). l ++ drop 8 seen) s.opens ∙ ap (λ (l : List ℕ). opening ++ l) w.is;
-          before = before;
-          opened = opened ∙ ap (λ n. found (n, before)) at_gate;
-          made = made;
-        }
-    parts frames w at before opened false same made = absurd cc
+bool_eq-true : (a b : Bool) → bool_eq a b ≡ true → a ≡ b
+bool_eq-true true b h = sym h
+bool_eq-true false true h = absurd cc
+bool_eq-true false false h = refl
 
-    ends : (frames : List Frame) → AreFrames (drop 8 seen) frames → (x : Option (ℕ × List (List Head))) → frames_steps 8 [] frames ≡ x → (x >>= λ x. if x.0 == gate then steps (gate + 9) x.1 rs else None) ≡ Some heads → Parsed seen gate rs heads
-    ends frames w None opened made = absurd cc
-    ends frames w (Some x) opened made = parts frames w x.0 x.1 opened (x.0 == gate) refl made
+bool_eq-same : (a : Bool) → bool_eq a a ≡ true
+bool_eq-same true = refl
+bool_eq-same false = refl
 
-    by : (x : Option (List Frame)) → ((frames : List Frame) → x ≡ Some frames → AreFrames (drop 8 seen) frames) → ((x >>= λ frames. frames_steps 8 [] frames) >>= λ x. if x.0 == gate then steps (gate + 9) x.1 rs else None) ≡ Some heads → Parsed seen gate rs heads
-    by None whole h = absurd cc
-    by (Some frames) whole h = ends frames (whole frames refl) (frames_steps 8 [] frames) refl h
+both-of : (a b : Bool) → a && b ≡ true → (a ≡ true) × (b ≡ true)
+both-of true b h = (refl, h)
+both-of false b h = absurd cc
 
-pub stands : (seen : List ℕ) (gate : ℕ) (rs : List Record) (heads : List (List Head)) → Parsed seen gate rs heads → Stands seen gate rs heads
-stands seen gate rs heads p =
-    let behind : drop 8 seen ≡ frames_bytes p.frames ++ 0 ∷ p.rest = ap (drop 8) p.is ∙ drop_at opening (frames_bytes p.frames ++ 0 ∷ p.rest) 8 refl in
-    let read : found_at 8 [] (drop 8 seen) ≡ Some (gate, p.before) = ap (λ (l : List ℕ). found_at 8 [] l) behind ∙ rw (frames-again p.frames p.rest p.each) p.opened in
-    record {
-      opens = ap (take 8) p.is ∙ take_at opening (frames_bytes p.frames ++ 0 ∷ p.rest) 8 refl;
-      made = rw (read, eq-eqb gate gate refl) p.made;
-    }
+if-some : {A : Type 0} (b : Bool) (x : Option A) (y : A) → (if b then x else None) ≡ Some y → (b ≡ true) × (x ≡ Some y)
+if-some true x y e = (refl, e)
+if-some false x y e = absurd cc
 
-module _ (seen : List ℕ) (gate : ℕ) (rs : List Record) (heads : List (List Head)) (p : Parsed seen gate rs heads) where
-  abbrev SameEnd : ℕ × List (List Head) → ℕ × List (List Head) → Type 0
-  SameEnd x y = x ≡ y
+then-some : {A B : Type 0} (x : Option A) (f : A → Option B) (y : B) → (x >>= f) ≡ Some y → (a : A) × (x ≡ Some a) × (f a ≡ Some y)
+then-some None f y e = absurd cc
+then-some (Some a) f y e = (a, refl, e)
 
-  frames-good : (frames_good head_at effect_of_head 8 [] p.frames ≡ true) × (nat_lt (gate_after 8 p.frames) (2 ^ 63) ≡ true) × SameEnd (gate_after 8 p.frames, heads_after [] (frames_events head_at 8 p.frames)) (gate, p.before)
-  frames-good =
-      both-true (frames_good head_at effect_of_head 8 [] p.frames) (nat_lt (gate_after 8 p.frames) (2 ^ 63)) (gate_after 8 p.frames, heads_after [] (frames_events head_at 8 p.frames)) (gate, p.before) (sym (frames_steps-good 8 [] p.frames) ∙ p.opened)
+-- what the records behind the gate make, where the file ends so
+abbrev made_behind : ℕ → Bool → Option ℕ → List Record → ℕ × Read → Option (List (List Head))
+made_behind gate spilled batch rs x = if x.0 == gate && bool_eq (is_begun x.1.begun) spilled then (steps (gate + 9) x.1 rs >>= λ q. if begins_at batch q.begun then chains_now q else None) else None
 
-  pub ends-at : gate_after 8 p.frames ≡ gate
-  ends-at = ap (λ (x : ℕ × List (List Head)). x.0) frames-good.2
+-- ---- changes of a batch that count
 
-  pub gate-small : gate < 2 ^ 63
-  gate-small = subst (λ (n : ℕ). n < 2 ^ 63) ends-at (ltb-true (gate_after 8 p.frames) (2 ^ 63) frames-good.1)
+same-changes : (inside : List (ℕ × Entry)) → map {B = ℕ × Entry} (λ change. (change.0, change.1)) inside ≡ inside
+same-changes [] = refl
+same-changes (change ∷ inside) = ap (λ (l : List (ℕ × Entry)). change ∷ l) (same-changes inside)
 
-  pub before-is : heads_after [] (frames_events head_at 8 p.frames) ≡ p.before
-  before-is = ap (λ (x : ℕ × List (List Head)). x.1) frames-good.2
+taken-chain : (s t : List (List Entry)) (id : ℕ) (e : Entry) → takes_change effect_of_entry s id e ≡ Some t → t ≡ chains_after effect_of_entry s (Change id e ∷ [])
+taken-chain s t id e is = sym (if-true (may_change effect_of_entry (effect_of_entry e) s id) (chains_after effect_of_entry s (Change id e ∷ [])) t is).1
 
-  pub place-is : length (opening ++ frames_bytes p.frames) ≡ gate
-  place-is = length-append opening (frames_bytes p.frames) ∙ sym (gate_after-is 8 p.frames) ∙ ends-at
+taken-chains : (s t : List (List Entry)) (inside : List (ℕ × Entry)) → taken entry_at (takes_change effect_of_entry) s inside ≡ Some t → chains_after effect_of_entry s (changes inside) ≡ t
+taken-chains s t [] is = some_is s t is
+taken-chains s t (change ∷ inside) is =
+    let one = then-some (takes_change effect_of_entry s change.0 change.1) (λ m. taken entry_at (takes_change effect_of_entry) m inside) t is in
+    ap (λ (l : List (List Entry)). chains_after effect_of_entry l (changes inside)) (sym (taken-chain s one.0 change.0 change.1 one.1)) ∙ taken-chains one.0 t inside one.2
 
-  pub frames-read : or_none (frames_of (drop 8 seen)) ≡ p.frames
-  frames-read = ap or_none (ap (λ (l : List ℕ). frames_of (drop 8 l)) p.is ∙ ap frames_of (drop_at opening (frames_bytes p.frames ++ 0 ∷ p.rest) 8 refl) ∙ frames-again p.frames p.rest p.each)
+-- the mark of a batch changes no chain
+batch-chains : (chains : List Chain) (b : Bool) (begun : Option (Begun Entry)) → is_begun begun ≡ b → chains_after effect_of_entry chains (batch_events b (inside_of begun)) ≡ chains_after effect_of_entry chains (changes (inside_of begun))
+batch-chains chains true begun e = refl
+batch-chains chains false None e = refl
+batch-chains chains false (Some begun) e = absurd cc
 
-  pub events-are : events_in seen ≡ frames_events entry_at 8 p.frames
-  events-are = ap (frames_events entry_at 8) frames-read
-
-  -- the file is described
-  pub described : DescribesTo gate seen (events_in seen)
-  described =
-      let whole = frames_seen seen opening 8 p.frames (0 ∷ p.rest) p.is refl in
+module _ (seen : List ℕ) (gate : ℕ) (spilled : Bool) (rs : List Record) (batch : Option ℕ) (heads : List (List Head)) where
+  pub parsed : IsBytes seen → Stands seen gate spilled rs batch heads → Parsed seen gate spilled rs batch heads
+  parsed fits s =
+      let one = then-some (found_at 8 start (drop 8 seen)) (made_behind gate spilled batch rs) heads s.made in
+      let two = then-some (frames_of (drop 8 seen)) (λ frames. frames_steps 8 start frames) one.0 one.1 in
+      let w = frames-take (drop 8 seen) two.0 (IsBytes-drop 8 seen fits) two.1 in
+      let three = if-some (one.0.0 == gate && bool_eq (is_begun one.0.1.begun) spilled) (steps (gate + 9) one.0.1 rs >>= λ q. if begins_at batch q.begun then chains_now q else None) heads one.2 in
+      let four = both-of (one.0.0 == gate) (bool_eq (is_begun one.0.1.begun) spilled) three.0 in
+      let five = then-some (steps (gate + 9) one.0.1 rs) (λ q. if begins_at batch q.begun then chains_now q else None) heads three.1 in
+      let six = if-some (begins_at batch five.0.begun) (chains_now five.0) heads five.2 in
       record {
-        frames = p.frames;
-        each = p.each;
-        rest = p.rest;
-        is = p.is ∙ sym (append_assoc opening (frames_bytes p.frames) (0 ∷ p.rest));
-        place = sym place-is;
-        small = gate-small;
-        good = frames_good-seen (entry_in seen) (λ head. refl) 8 [] p.frames whole ∙ frames-good.0;
-        meaning = events-are;
+        frames = two.0;
+        each = w.each;
+        rest = w.rest;
+        is = sym (take-append-drop 8 seen) ∙ ap (λ (l : List ℕ). l ++ drop 8 seen) s.opens ∙ ap (λ (l : List ℕ). opening ++ l) w.is;
+        before = one.0.1;
+        opened = two.2 ∙ ap (λ n. found (n, one.0.1)) (eqb-true one.0.0 gate four.0);
+        begun = bool_eq-true (is_begun one.0.1.begun) spilled four.1;
+        last = five.0;
+        made = five.1;
+        ends = six.0;
+        all = six.1;
       }
 
-  -- ---- the records behind it
+  pub stands : Parsed seen gate spilled rs batch heads → Stands seen gate spilled rs batch heads
+  stands p =
+      let inner : drop 8 seen ≡ frames_bytes p.frames ++ 0 ∷ p.rest = ap (drop 8) p.is ∙ drop_at opening (frames_bytes p.frames ++ 0 ∷ p.rest) 8 refl in
+      let read : found_at 8 start (drop 8 seen) ≡ Some (gate, p.before) = ap (λ (l : List ℕ). found_at 8 start l) inner ∙ rw (frames-again p.frames p.rest p.each) p.opened in
+      let same : bool_eq (is_begun p.before.begun) spilled ≡ true = ap (λ b. bool_eq b spilled) p.begun ∙ bool_eq-same spilled in
+      record {
+        opens = ap (take 8) p.is ∙ take_at opening (frames_bytes p.frames ++ 0 ∷ p.rest) 8 refl;
+        made = rw (read, eq-eqb gate gate refl, same, p.made, p.ends) p.all;
+      }
 
-  pub records-good : (are_good head_at effect_of_head (gate + 9) p.before rs ≡ true) × (heads_after p.before (events_at head_at (gate + 9) rs) ≡ heads)
-  records-good = by (are_good head_at effect_of_head (gate + 9) p.before rs) refl (sym (steps-good (gate + 9) p.before rs) ∙ p.made)
-    where
-      by : (b : Bool) → are_good head_at effect_of_head (gate + 9) p.before rs ≡ b → (if b then found (heads_after p.before (events_at head_at (gate + 9) rs)) else None) ≡ Some heads → (are_good head_at effect_of_head (gate + 9) p.before rs ≡ true) × (heads_after p.before (events_at head_at (gate + 9) rs) ≡ heads)
-      by true is e = (is, some_is _ _ e)
-      by false is e = absurd cc
+  module _ (p : Parsed seen gate spilled rs batch heads) where
+    turned : AreStepped gate p.before p.frames
+    turned = stepped gate p.before p.frames p.opened
 
-  -- bytes in which the frames stand, and the records behind 8 bytes
-  module _ (bytes pad : List ℕ) (long : length pad ≡ 8) (is : bytes ≡ opening ++ (frames_bytes p.frames ++ 0 ∷ (pad ++ body rs))) where
-    frames-stand : FramesSeen (entry_in bytes) 8 p.frames
-    frames-stand = frames_seen bytes opening 8 p.frames (0 ∷ (pad ++ body rs)) is refl
+    pub gate-room : gate + room_for p.before.begun < 2 ^ 63
+    gate-room = turned.small
 
-    records-stand : AreSeen (entry_in bytes) (gate + 9) rs
-    records-stand =
-        let front = opening ++ frames_bytes p.frames in
-        are_seen bytes (front ++ 0 ∷ pad) (gate + 9) rs []
-        (is ∙ sym (append_assoc opening (frames_bytes p.frames) (0 ∷ (pad ++ body rs))) ∙ sym (append_assoc front (0 ∷ pad) (body rs)) ∙ ap (λ (l : List ℕ). (front ++ 0 ∷ pad) ++ l) (sym (append-nil (body rs))))
-        (omega (arith, length-append front (0 ∷ pad), place-is, long))
+    pub gate-small : gate < 2 ^ 63
+    gate-small = let small = turned.small in omega (arith, small)
 
-    before-stand : map (map (entry_in bytes)) p.before ≡ chains_after effect_of_entry [] (events_in seen)
-    before-stand =
-        ap (map (map (entry_in bytes))) (sym before-is) ∙ chains-seen (entry_in bytes) (λ head. refl) 8 p.frames frames-stand ∙ ap (chains_after effect_of_entry []) (sym events-are)
+    pub ends-at : gate_after 8 p.frames ≡ gate
+    ends-at = turned.ends
 
-    -- the heads stand for what all of them make
-    pub heads-stand : map (map (entry_in bytes)) heads ≡ chains_after effect_of_entry [] (events_in seen ++ events_at entry_at (gate + 9) rs)
-    heads-stand =
-        ap (map (map (entry_in bytes))) (sym records-good.1)
-        ∙ after-seen (entry_in bytes) (λ head. refl) p.before (events_at head_at (gate + 9) rs) (events_at entry_at (gate + 9) rs) (events_at-seen (entry_in bytes) (λ head. refl) (gate + 9) rs records-stand)
-        ∙ ap (λ (l : List Chain). chains_after effect_of_entry l (events_at entry_at (gate + 9) rs)) before-stand
-        ∙ sym (chains_after-append effect_of_entry [] (events_in seen) (events_at entry_at (gate + 9) rs))
+    pub place-is : length (opening ++ frames_bytes p.frames) ≡ gate
+    place-is = length-append opening (frames_bytes p.frames) ∙ sym (gate_after-is 8 p.frames) ∙ turned.ends
 
-    good-stand : are_good entry_at effect_of_entry (gate + 9) (chains_after effect_of_entry [] (events_in seen)) rs ≡ true
-    good-stand =
-        ap (λ (l : List Chain). are_good entry_at effect_of_entry (gate + 9) l rs) (sym before-stand)
-        ∙ are_good-seen (entry_in bytes) (λ head. refl) (gate + 9) p.before rs records-stand
-        ∙ records-good.0
+    pub frames-read : or_none (frames_of (drop 8 seen)) ≡ p.frames
+    frames-read = ap or_none (ap (λ (l : List ℕ). frames_of (drop 8 l)) p.is ∙ ap frames_of (drop_at opening (frames_bytes p.frames ++ 0 ∷ p.rest) 8 refl) ∙ frames-again p.frames p.rest p.each)
 
-  -- the records may stand in a frame
-  pub may-follow : (byte : ℕ) → byte ≢ 0 → rs ≢ [] → AllByRecursion Fits rs → gate + (9 + length (body rs)) < 2 ^ 63 → MayFollow gate (events_in seen) (record { gate = byte; records = rs })
-  may-follow byte opens some fit small = record {
-    fits = record { gate = opens; some = some; fit = fit; length = omega (arith, small) };
-    good = good-stand (opening ++ (frames_bytes p.frames ++ 0 ∷ (number_bytes 0 ++ body rs))) (number_bytes 0) (number_bytes-length 0) refl;
-    small = small;
-  }
+    -- bytes in which the frames stand make what is meant
+    frames-in : (bytes behind : List ℕ) → bytes ≡ opening ++ (frames_bytes p.frames ++ behind) → IsMeant (entry_in bytes) (said_by p.frames) p.before
+    frames-in bytes behind is = frames-meant (entry_in bytes) (λ head. refl) 8 (outside []) start p.before p.frames (frames_seen bytes opening 8 p.frames behind is refl) refl turned.turned
+
+    pub progress-in : (bytes behind : List ℕ) → bytes ≡ opening ++ (frames_bytes p.frames ++ behind) → (said_by p.frames ≡ Some (progress_in seen)) × StandsFor (entry_in bytes) (progress_in seen) p.before
+    progress-in bytes behind is =
+        let m = frames-in bytes behind is in
+        let same : m.0 ≡ progress_in seen = sym (ap or_start (ap said_by frames-read ∙ m.1)) in
+        (m.1 ∙ ap (λ (q : Meant). found q) same, subst (λ (q : Meant). StandsFor (entry_in bytes) q p.before) same m.2)
+
+    -- the file is described
+    pub described : DescribesTo gate seen (events_in seen)
+    described =
+        let m = progress-in seen (0 ∷ p.rest) p.is in
+        record {
+          frames = p.frames;
+          each = p.each;
+          rest = p.rest;
+          is = p.is ∙ sym (append_assoc opening (frames_bytes p.frames) (0 ∷ p.rest));
+          place = sym place-is;
+          begun = (progress_in seen).begun;
+          small = subst (λ (n : ℕ). gate + n < 2 ^ 63) (sym (same-room (entry_in seen) (progress_in seen) p.before m.1)) gate-room;
+          meaning = m.0;
+        }
+
+    pub described-begun : described.begun ≡ (progress_in seen).begun
+    unfolding described
+    described-begun = refl
+
+    -- ---- the records behind it
+
+    begun-same : (see : Head → Entry) (q : Option (Begun Entry)) (b : Option (Begun Head)) → (made_of (record { settled = []; begun = q })).begun ≡ (made_in see (record { settled = []; begun = b })).begun → is_begun q ≡ is_begun b
+    begun-same see None None e = refl
+    begun-same see None (Some b) e = absurd cc
+    begun-same see (Some q) None e = absurd cc
+    begun-same see (Some q) (Some b) e = refl
+
+    -- the file ends inside a batch or not, as it says
+    pub spilled-is : is_begun (progress_in seen).begun ≡ spilled
+    spilled-is =
+        let m = progress-in seen (0 ∷ p.rest) p.is in
+        begun-same (entry_in seen) (progress_in seen).begun p.before.begun (ap (λ (q : Made). q.begun) m.1) ∙ p.begun
+
+    module _ (bytes pad : List ℕ) (long : length pad ≡ 8) (is : bytes ≡ opening ++ (frames_bytes p.frames ++ 0 ∷ (pad ++ body rs))) where
+      records-stand : AreSeen (entry_in bytes) (gate + 9) rs
+      records-stand =
+          let front = opening ++ frames_bytes p.frames in
+          are_seen bytes (front ++ 0 ∷ pad) (gate + 9) rs []
+          (is ∙ sym (append_assoc opening (frames_bytes p.frames) (0 ∷ (pad ++ body rs))) ∙ sym (append_assoc front (0 ∷ pad) (body rs)) ∙ ap (λ (l : List ℕ). (front ++ 0 ∷ pad) ++ l) (sym (append-nil (body rs))))
+          (omega (arith, length-append front (0 ∷ pad), place-is, long))
+
+      records-in : IsMeant (entry_in bytes) (meant_turns (gate + 9) (progress_in seen) rs) p.last
+      records-in = turns-meant (entry_in bytes) (λ head. refl) (gate + 9) (progress_in seen) p.before p.last rs records-stand (progress-in bytes (0 ∷ (pad ++ body rs)) is).1 p.made
+
+      pub progress-then : (meant_turns (gate + 9) (progress_in seen) rs ≡ Some (progress_then seen gate rs)) × StandsFor (entry_in bytes) (progress_then seen gate rs) p.last
+      progress-then =
+          let m = records-in in
+          let same : m.0 ≡ progress_then seen gate rs = sym (ap or_start m.1) in
+          (m.1 ∙ ap (λ (q : Meant). found q) same, subst (λ (q : Meant). StandsFor (entry_in bytes) q p.last) same m.2)
+
+      -- ---- all chains, those of a begun batch among them
+
+      inside-same : (q : Option (Begun Entry)) (b : Option (Begun Head)) → (made_of (record { settled = []; begun = q })).begun ≡ (made_in (entry_in bytes) (record { settled = []; begun = b })).begun
+          → map {B = ℕ × Entry} (λ change. (change.0, change.1)) (inside_of q) ≡ map {B = ℕ × Entry} (λ change. (change.0, entry_in bytes change.1)) (inside_of b)
+      inside-same None None e = refl
+      inside-same None (Some b) e = absurd cc
+      inside-same (Some q) None e = absurd cc
+      inside-same (Some q) (Some b) e = ap (λ (x : Option (Begun Entry)). inside_of x) e
+
+      pub all-chains : chains_after effect_of_entry (chains_after effect_of_entry [] (progress_then seen gate rs).settled) (changes (inside_of (progress_then seen gate rs).begun)) ≡ map (map (entry_in bytes)) heads
+      all-chains =
+          let q = progress_then seen gate rs in
+          let m = progress-then.1 in
+          let inside = inside-same q.begun p.last.begun (ap (λ (q : Made). q.begun) m) in
+          let all = taken-seen head_at entry_at (takes_change effect_of_head) (takes_change effect_of_entry) (entry_in bytes) (map (map (entry_in bytes))) (takes_change-seen effect_of_head effect_of_entry (entry_in bytes) (λ head. refl)) p.last.settled (inside_of p.last.begun) in
+          taken-chains (chains_after effect_of_entry [] q.settled) (map (map (entry_in bytes)) heads) (inside_of q.begun)
+          (ap (λ (l : List (List Entry)). taken entry_at (takes_change effect_of_entry) l (inside_of q.begun)) (sym (same-chains (entry_in bytes) q p.last m))
+          ∙ ap (λ (l : List (ℕ × Entry)). taken entry_at (takes_change effect_of_entry) (map (map (entry_in bytes)) p.last.settled) l) (sym (same-changes (inside_of q.begun)) ∙ inside)
+          ∙ all ∙ ap (seen_option (map (map (entry_in bytes)))) p.all)
+
+      -- the heads stand for what the file and all that is pending make
+      pub heads-stand : list_all is_own rs ≡ true → map (map (entry_in bytes)) heads ≡ chains_after effect_of_entry (chains_after effect_of_entry [] (events_in seen)) (batch_events spilled (inside_in seen) ++ pending_events (gate + 9) rs)
+      heads-stand own =
+          let q = progress_then seen gate rs in
+          let s = settles (gate + 9) (progress_in seen) q rs own progress-then.0 in
+          sym all-chains
+          ∙ ap (λ (l : List Chain). chains_after effect_of_entry l (changes (inside_of q.begun))) s.made
+          ∙ sym (batch-chains (chains_after effect_of_entry (chains_after effect_of_entry [] (events_in seen)) s.done) (is_begun q.begun) q.begun refl)
+          ∙ sym (chains_after-append effect_of_entry (chains_after effect_of_entry [] (events_in seen)) s.done (open_events q))
+          ∙ ap (chains_after effect_of_entry (chains_after effect_of_entry [] (events_in seen))) (sym s.parts)
+          ∙ ap (λ b. chains_after effect_of_entry (chains_after effect_of_entry [] (events_in seen)) (batch_events b (inside_in seen) ++ pending_events (gate + 9) rs)) spilled-is
+
+    -- the records may stand in a frame
+    pub may-follow : (byte : ℕ) → byte ≢ 0 → rs ≢ [] → AllByRecursion Fits rs → gate + (9 + length (body rs)) + room_for p.last.begun < 2 ^ 63 → MayFollow gate (events_in seen) (progress_in seen).begun (record { gate = byte; records = rs }) (progress_then seen gate rs).settled
+    may-follow byte opens some fit small =
+        let bytes = opening ++ (frames_bytes p.frames ++ 0 ∷ (number_bytes 0 ++ body rs)) in
+        let m = progress-then bytes (number_bytes 0) (number_bytes-length 0) refl in
+        record {
+          fits = record { gate = opens; some = some; fit = fit; length = omega (arith, small) };
+          ends_in = (progress_then seen gate rs).begun;
+          says = m.0;
+          small = subst (λ (n : ℕ). gate + (9 + length (body rs)) + n < 2 ^ 63) (sym (same-room (entry_in bytes) (progress_then seen gate rs) p.last m.1)) small;
+        }
 
 -- ---- records more
 
@@ -176,117 +264,181 @@ and_more false b c k h = h
 marks-more : (place : ℕ) (m : Record) (rs : List Record) (r : Record) → marks place m rs ≡ true → marks place m (rs ++ r ∷ []) ≡ true
 marks-more place m rs r = and_more (is_mark m) (stands_in (number m.payload) place (m ∷ rs)) (stands_in (number m.payload) place (m ∷ (rs ++ r ∷ []))) (stands_in-more (number m.payload) place (m ∷ rs) r)
 
-may_stand-more : (kind : MessageKind) (chains : List (List Head)) (id : ℕ) (was now : Bool) → (was ≡ true → now ≡ true) → may_stand effect_of_head kind chains id was ≡ true → may_stand effect_of_head kind chains id now ≡ true
-may_stand-more kinds.BatchManifest chains id was now k h = k h
-may_stand-more kinds.Corrupted chains id was now k h = h
-may_stand-more kinds.Canceled chains id was now k h = h
-may_stand-more kinds.Cap chains id was now k h = h
-may_stand-more kinds.Free chains id was now k h = h
-may_stand-more kinds.Counter chains id was now k h = h
-may_stand-more kinds.InlineMeta chains id was now k h = h
-may_stand-more kinds.BlobMeta chains id was now k h = h
-may_stand-more kinds.InlineNode chains id was now k h = h
-may_stand-more kinds.BlobNode chains id was now k h = h
-may_stand-more kinds.InlineLink chains id was now k h = h
-may_stand-more kinds.BlobLink chains id was now k h = h
+plain-more : (kind : MessageKind) (s : List (List Head)) (place : ℕ) (r : Record) (was later : Bool) (next : Read) → (was ≡ true → later ≡ true) → plain head_at (takes_change effect_of_head) kind s place r was ≡ Some next → plain head_at (takes_change effect_of_head) kind s place r later ≡ Some next
+plain-more kinds.BatchManifest s place r true true next k h = h
+plain-more kinds.BatchManifest s place r true false next k h = absurd (let bad = k refl in cc)
+plain-more kinds.BatchManifest s place r false later next k h = absurd cc
+plain-more kinds.Corrupted s place r was later next k h = h
+plain-more kinds.Canceled s place r was later next k h = h
+plain-more kinds.Cap s place r was later next k h = h
+plain-more kinds.Free s place r was later next k h = h
+plain-more kinds.Counter s place r was later next k h = h
+plain-more kinds.InlineMeta s place r was later next k h = h
+plain-more kinds.BlobMeta s place r was later next k h = h
+plain-more kinds.InlineNode s place r was later next k h = h
+plain-more kinds.BlobNode s place r was later next k h = h
+plain-more kinds.InlineLink s place r was later next k h = h
+plain-more kinds.BlobLink s place r was later next k h = h
 
-pub step-more : (chains : List (List Head)) (place : ℕ) (r : Record) (was now : Bool) (after : List (List Head)) → (was ≡ true → now ≡ true) → step chains place r was ≡ Some after → step chains place r now ≡ Some after
+pub step-more : (p : Read) (place : ℕ) (r : Record) (was later : Bool) (next : Read) → (was ≡ true → later ≡ true) → step p place r was ≡ Some next → step p place r later ≡ Some next
 unfolding step
-step-more chains place r was now after k h = by (may_stand effect_of_head (kind_of r.kind) chains r.id was) (may_stand-more (kind_of r.kind) chains r.id was now k) h
+step-more p place r was later next k h = by p.begun h
   where
-    by : (b : Bool) → (b ≡ true → may_stand effect_of_head (kind_of r.kind) chains r.id now ≡ true) → (if b then found (chains_after effect_of_head chains (event_at head_at place r)) else None) ≡ Some after
-        → (if may_stand effect_of_head (kind_of r.kind) chains r.id now then found (chains_after effect_of_head chains (event_at head_at place r)) else None) ≡ Some after
-    by true m h = rw (m refl) h
-    by false m h = absurd cc
+    in_plain : (b : Bool) (x : Option Read) → (if b then x else plain head_at (takes_change effect_of_head) (kind_of r.kind) p.settled place r was) ≡ Some next → (if b then x else plain head_at (takes_change effect_of_head) (kind_of r.kind) p.settled place r later) ≡ Some next
+    in_plain true x h = h
+    in_plain false x h = plain-more (kind_of r.kind) p.settled place r was later next k h
 
-steps-append : (place : ℕ) (chains : List (List Head)) (rs : List Record) (r : Record) (after last : List (List Head))
-    → steps place chains rs ≡ Some after → step after (place + length (body rs)) r (marks (place + length (body rs)) r []) ≡ Some last → steps place chains (rs ++ r ∷ []) ≡ Some last
-unfolding steps
-steps-append place chains [] r after last made taken =
-    let same : chains ≡ after = some_is chains after made in
-    let none : place + length (body []) ≡ place = omega arith in
-    let at : step after place r (marks place r []) ≡ Some last = subst (λ (n : ℕ). step after n r (marks n r []) ≡ Some last) none taken in
-    let here : step chains place r (marks place r []) ≡ Some last = subst (λ (l : List (List Head)). step l place r (marks place r []) ≡ Some last) (sym same) at in
-    rw here refl
-steps-append place chains (first ∷ rs) r after last made taken =
-    by (step chains place first (marks place first rs)) (λ mid is. step-more chains place first (marks place first rs) (marks place first (rs ++ r ∷ [])) mid (marks-more place first rs r) is)
-    (λ mid h t. steps-append (place + size first) mid rs r after last h t) made
+    by : (begun : Option (Begun Head)) → turn_by head_at (takes_change effect_of_head) begun p.settled place r was ≡ Some next → turn_by head_at (takes_change effect_of_head) begun p.settled place r later ≡ Some next
+    by None h = in_plain (r.kind == 12) (if is_begin r then Some (within p.settled place []) else None) h
+    by (Some b) h = h
+
+steps-append : (place : ℕ) (p : Read) (rs : List Record) (r : Record) (last next : Read) → steps place p rs ≡ Some last → step last (place + length (body rs)) r (marks (place + length (body rs)) r []) ≡ Some next → steps place p (rs ++ r ∷ []) ≡ Some next
+unfolding turns step
+steps-append place p [] r last next made taken =
+    let same = some_is p last made in
+    let at : place ≡ place + 0 = omega arith in
+    by (turn head_at (takes_change effect_of_head) p place r (marks place r [])) (ap (λ n. step p n r (marks n r [])) at ∙ ap (λ (q : Read). step q (place + 0) r (marks (place + 0) r [])) same ∙ taken)
   where
-    at : place + length (body (first ∷ rs)) ≡ (place + size first) + length (body rs)
-    at = omega (arith, length-append (record_bytes first) (body rs), record_bytes-length first)
-
-    by : (x : Option (List (List Head))) → ((mid : List (List Head)) → x ≡ Some mid → step chains place first (marks place first (rs ++ r ∷ [])) ≡ Some mid)
-        → ((mid : List (List Head)) → steps (place + size first) mid rs ≡ Some after → step after ((place + size first) + length (body rs)) r (marks ((place + size first) + length (body rs)) r []) ≡ Some last → steps (place + size first) mid (rs ++ r ∷ []) ≡ Some last)
-        → (x >>= λ mid. steps (place + size first) mid rs) ≡ Some after → (step chains place first (marks place first (rs ++ r ∷ [])) >>= λ mid. steps (place + size first) mid (rs ++ r ∷ [])) ≡ Some last
-    by None k next h = absurd cc
-    by (Some mid) k next h =
-        rw (k mid refl) (next mid h (subst (λ (n : ℕ). step after n r (marks n r []) ≡ Some last) at taken))
+    by : (x : Option Read) → x ≡ Some next → (x >>= λ q. Some q) ≡ Some next
+    by None e = absurd cc
+    by (Some q) e = e
+steps-append place p (first ∷ rs) r last next made taken =
+    let one = then-some (turn head_at (takes_change effect_of_head) p place first (marks place first rs)) (λ q. steps (place + size first) q rs) last made in
+    let more = step-more p place first (marks place first rs) (marks place first (rs ++ r ∷ [])) one.0 (marks-more place first rs r) one.1 in
+    let at : place + length (body (first ∷ rs)) ≡ (place + size first) + length (body rs) = omega (arith, length-append (record_bytes first) (body rs), record_bytes-length first) in
+    rw more (steps-append (place + size first) one.0 rs r last next one.2 (subst (λ (n : ℕ). step last n r (marks n r []) ≡ Some next) at taken))
 
 -- one record more
-pub one-record : (seen : List ℕ) (gate : ℕ) (rs : List Record) (heads last : List (List Head)) (r : Record) → Parsed seen gate rs heads
-    → step heads ((gate + 9) + length (body rs)) r (marks ((gate + 9) + length (body rs)) r []) ≡ Some last → Parsed seen gate (rs ++ r ∷ []) last
-one-record seen gate rs heads last r p taken =
-    record { frames = p.frames; each = p.each; rest = p.rest; is = p.is; before = p.before; opened = p.opened; made = steps-append (gate + 9) p.before rs r heads last p.made taken }
-
--- other records that make the same
-pub other-records : (seen : List ℕ) (gate : ℕ) (rs others : List Record) (heads : List (List Head)) → Parsed seen gate rs heads
-    → ((chains : List (List Head)) → steps (gate + 9) chains rs ≡ Some heads → steps (gate + 9) chains others ≡ Some heads) → Parsed seen gate others heads
-other-records seen gate rs others heads p k = record { frames = p.frames; each = p.each; rest = p.rest; is = p.is; before = p.before; opened = p.opened; made = k p.before p.made }
+pub one-record : (seen : List ℕ) (gate : ℕ) (spilled : Bool) (rs : List Record) (batch batch_then : Option ℕ) (heads heads_then : List (List Head)) (r : Record) (p : Parsed seen gate spilled rs batch heads) (next : Read)
+    → step p.last ((gate + 9) + length (body rs)) r (marks ((gate + 9) + length (body rs)) r []) ≡ Some next → begins_at batch_then next.begun ≡ true → chains_now next ≡ Some heads_then → Parsed seen gate spilled (rs ++ r ∷ []) batch_then heads_then
+one-record seen gate spilled rs batch batch_then heads heads_then r p next taken ends all = record {
+  frames = p.frames;
+  each = p.each;
+  rest = p.rest;
+  is = p.is;
+  before = p.before;
+  opened = p.opened;
+  begun = p.begun;
+  last = next;
+  made = steps-append (gate + 9) p.before rs r p.last next p.made taken;
+  ends = ends;
+  all = all;
+}
 
 -- ---- a frame more
 
-frames_steps-append : (at : ℕ) (chains : List (List Head)) (xs : List Frame) (y : Frame) (gate : ℕ) (before heads : List (List Head))
-    → frames_steps at chains xs ≡ Some (gate, before) → steps (gate + 9) before y.records ≡ Some heads → gate + (9 + length (body y.records)) < 2 ^ 63
-    → frames_steps at chains (xs ++ y ∷ []) ≡ Some (gate + (9 + length (body y.records)), heads)
-unfolding frames_steps
-frames_steps-append at chains [] y gate before heads opened made small = by (nat_lt at (2 ^ 63)) opened
-  where
-    ends : Bool → Option (ℕ × List (List Head))
-    ends b = if b then Some (at, chains) else None
+abbrev pub is_open_by : Option ℕ → Bool
+is_open_by None = false
+is_open_by (Some place) = true
 
-    by : (b : Bool) → ends b ≡ Some (gate, before) → (steps (at + 9) chains y.records >>= λ after. frames_steps (at + (9 + length (body y.records))) after []) ≡ Some (gate + (9 + length (body y.records)), heads)
-    by true e =
-        let x : ℕ × List (List Head) = (at, chains) in
-        let z : ℕ × List (List Head) = (gate, before) in
-        let same = some_is x z e in
-        let place : at ≡ gate = ap (λ (x : ℕ × List (List Head)). x.0) same in
-        let start : chains ≡ before = ap (λ (x : ℕ × List (List Head)). x.1) same in
-        let go : steps (at + 9) chains y.records ≡ Some heads = rw (place, start) made in
-        rw (go, place, lt-ltb (gate + (9 + length (body y.records))) (2 ^ 63) small) refl
-    by false e = absurd cc
-frames_steps-append at chains (x ∷ xs) y gate before heads opened made small = by (steps (at + 9) chains x.records) (λ after e. frames_steps-append (at + (9 + length (body x.records))) after xs y gate before heads e made small) opened
-  where
-    next : ℕ
-    next = at + (9 + length (body x.records))
+pub begins-is : {E : Type 0} (batch : Option ℕ) (begun : Option (Begun E)) → begins_at batch begun ≡ true → is_begun begun ≡ is_open_by batch
+begins-is None None e = refl
+begins-is None (Some b) e = absurd cc
+begins-is (Some place) None e = absurd cc
+begins-is (Some place) (Some b) e = refl
 
-    by : (s : Option (List (List Head))) → ((after : List (List Head)) → frames_steps next after xs ≡ Some (gate, before) → frames_steps next after (xs ++ y ∷ []) ≡ Some (gate + (9 + length (body y.records)), heads))
-        → (s >>= λ after. frames_steps next after xs) ≡ Some (gate, before) → (s >>= λ after. frames_steps next after (xs ++ y ∷ [])) ≡ Some (gate + (9 + length (body y.records)), heads)
-    by None k e = absurd cc
-    by (Some after) k e = k after e
+-- a file of frames, as far as it was read
+pub record IsFile (seen : List ℕ) (gate : ℕ) (read : Read) : Type 0 where
+  pub frames : List Frame
+  pub each : AllByRecursion IsFrame frames
+  pub rest : List ℕ
+  pub is : seen ≡ opening ++ (frames_bytes frames ++ 0 ∷ rest)
+  pub opened : frames_steps 8 start frames ≡ Some (gate, read)
 
--- the records were written as a frame
-pub one-frame : (seen after : List ℕ) (gate : ℕ) (rs : List Record) (heads : List (List Head)) (byte : ℕ) → byte ≢ 0 → (p : Parsed seen gate rs heads) → rs ≢ [] → AllByRecursion Fits rs → gate + (9 + length (body rs)) < 2 ^ 63
-    → IsWritten gate seen (record { gate = byte; records = rs }) after → Parsed after (gate + (9 + length (body rs))) [] heads
-unfolding steps
-one-frame seen after gate rs heads byte opens p some fit small (rest, is) =
+pub file-read : (seen : List ℕ) (gate : ℕ) (read : Read) → IsBytes seen → take 8 seen ≡ opening → found_at 8 start (drop 8 seen) ≡ Some (gate, read) → IsFile seen gate read
+file-read seen gate read fits opens e =
+    let two = then-some (frames_of (drop 8 seen)) (λ frames. frames_steps 8 start frames) (gate, read) e in
+    let w = frames-take (drop 8 seen) two.0 (IsBytes-drop 8 seen fits) two.1 in
+    record { frames = two.0; each = w.each; rest = w.rest; is = sym (take-append-drop 8 seen) ∙ ap (λ (l : List ℕ). l ++ drop 8 seen) opens ∙ ap (λ (l : List ℕ). opening ++ l) w.is; opened = two.2 }
+
+pub file-parsed : (seen : List ℕ) (gate : ℕ) (read : Read) → IsFile seen gate read → (heads : List (List Head)) → (batch : Option ℕ) → begins_at batch read.begun ≡ true → chains_now read ≡ Some heads → Parsed seen gate (is_open_by batch) [] batch heads
+unfolding turns
+file-parsed seen gate read f heads batch ends all = record {
+  frames = f.frames;
+  each = f.each;
+  rest = f.rest;
+  is = f.is;
+  before = read;
+  opened = f.opened;
+  begun = begins-is batch read.begun ends;
+  last = read;
+  made = refl;
+  ends = ends;
+  all = all;
+}
+
+-- one frame more
+pub file-more : (seen after : List ℕ) (gate : ℕ) (before last : Read) (rs : List Record) (byte : ℕ) → byte ≢ 0 → IsFile seen gate before → steps (gate + 9) before rs ≡ Some last → rs ≢ [] → AllByRecursion Fits rs
+    → gate + (9 + length (body rs)) + room_for last.begun < 2 ^ 63 → IsWritten gate seen (record { gate = byte; records = rs }) after → IsFile after (gate + (9 + length (body rs))) last
+file-more seen after gate before last rs byte opens f made some fit small (rest, is) =
     let frame : Frame = record { gate = byte; records = rs } in
-    let front = opening ++ frames_bytes p.frames in
-    let file : seen ≡ front ++ 0 ∷ p.rest = p.is ∙ sym (append_assoc opening (frames_bytes p.frames) (0 ∷ p.rest)) in
-    let kept : take gate seen ≡ front = ap (take gate) file ∙ take_at front (0 ∷ p.rest) gate (place-is seen gate rs heads p) in
-    let one : frames_bytes (p.frames ++ frame ∷ []) ≡ frames_bytes p.frames ++ frame_bytes frame = frames_bytes-append p.frames (frame ∷ []) ∙ ap (λ (l : List ℕ). frames_bytes p.frames ++ l) (append-nil (frame_bytes frame)) in
+    let front = opening ++ frames_bytes f.frames in
+    let t = stepped gate before f.frames f.opened in
+    let at : length front ≡ gate = length-append opening (frames_bytes f.frames) ∙ sym (gate_after-is 8 f.frames) ∙ t.ends in
+    let file : seen ≡ front ++ 0 ∷ f.rest = f.is ∙ sym (append_assoc opening (frames_bytes f.frames) (0 ∷ f.rest)) in
+    let kept : take gate seen ≡ front = ap (take gate) file ∙ take_at front (0 ∷ f.rest) gate at in
+    let one : frames_bytes (f.frames ++ frame ∷ []) ≡ frames_bytes f.frames ++ frame_bytes frame = frames_bytes-append f.frames (frame ∷ []) ∙ ap (λ (l : List ℕ). frames_bytes f.frames ++ l) (append-nil (frame_bytes frame)) in
+    let turned : frames_turns head_at (takes_change effect_of_head) 8 start (f.frames ++ frame ∷ []) ≡ Some last =
+    turns-append head_at (takes_change effect_of_head) 8 start f.frames frame
+    ∙ ap (λ (x : Option Read). x >>= λ q. steps (gate_after 8 f.frames + 9) q rs) t.turned
+    ∙ ap (λ n. steps (n + 9) before rs) t.ends ∙ made in
+    let ends : gate_after 8 (f.frames ++ frame ∷ []) ≡ gate + (9 + length (body rs)) =
+    gate_after-is 8 (f.frames ++ frame ∷ []) ∙ ap (λ (l : List ℕ). 8 + length l) one
+    ∙ omega (arith, length-append opening (frames_bytes f.frames), length-append (frames_bytes f.frames) (frame_bytes frame), length-append (number_bytes (length (body rs))) (body rs), number_bytes-length (length (body rs)), at) in
+    let room = lt-ltb (gate + (9 + length (body rs)) + room_for last.begun) (2 ^ 63) small in
     record {
-      frames = p.frames ++ frame ∷ [];
-      each = each-append p.frames frame p.each (record { gate = opens; some = some; fit = fit; length = omega (arith, small) });
+      frames = f.frames ++ frame ∷ [];
+      each = each-append f.frames frame f.each (record { gate = opens; some = some; fit = fit; length = omega (arith, small) });
       rest = rest;
-      is = is ∙ ap (λ (l : List ℕ). l ++ (frame_bytes frame ++ 0 ∷ rest)) kept ∙ append_assoc opening (frames_bytes p.frames) (frame_bytes frame ++ 0 ∷ rest)
-          ∙ ap (λ (l : List ℕ). opening ++ l) (sym (append_assoc (frames_bytes p.frames) (frame_bytes frame) (0 ∷ rest)) ∙ ap (λ (l : List ℕ). l ++ 0 ∷ rest) (sym one));
-      before = heads;
-      opened = frames_steps-append 8 [] p.frames frame gate p.before heads p.opened p.made small;
-      made = refl;
+      is = is ∙ ap (λ (l : List ℕ). l ++ (frame_bytes frame ++ 0 ∷ rest)) kept ∙ append_assoc opening (frames_bytes f.frames) (frame_bytes frame ++ 0 ∷ rest)
+          ∙ ap (λ (l : List ℕ). opening ++ l) (sym (append_assoc (frames_bytes f.frames) (frame_bytes frame) (0 ∷ rest)) ∙ ap (λ (l : List ℕ). l ++ 0 ∷ rest) (sym one));
+      opened = frames_steps-are 8 start (f.frames ++ frame ∷ []) ∙ rw (turned, ends, room) refl;
     }
 
--- it is one of the file's then, behind the others
-pub one-frame-frames : (seen after : List ℕ) (gate : ℕ) (rs : List Record) (heads : List (List Head)) (byte : ℕ) (opens : byte ≢ 0) (p : Parsed seen gate rs heads) (some : rs ≢ []) (fit : AllByRecursion Fits rs) (small : gate + (9 + length (body rs)) < 2 ^ 63)
-    (written : IsWritten gate seen (record { gate = byte; records = rs }) after) → (one-frame seen after gate rs heads byte opens p some fit small written).frames ≡ p.frames ++ record { gate = byte; records = rs } ∷ []
-unfolding one-frame
-one-frame-frames seen after gate rs heads byte opens p some fit small written = refl
+-- the records were written as a frame
+pub one-frame : (seen after : List ℕ) (gate : ℕ) (spilled : Bool) (rs : List Record) (batch : Option ℕ) (heads : List (List Head)) (byte : ℕ) → byte ≢ 0 → (p : Parsed seen gate spilled rs batch heads) → rs ≢ [] → AllByRecursion Fits rs
+    → gate + (9 + length (body rs)) + room_for p.last.begun < 2 ^ 63 → IsWritten gate seen (record { gate = byte; records = rs }) after → Parsed after (gate + (9 + length (body rs))) (is_open_by batch) [] batch heads
+one-frame seen after gate spilled rs batch heads byte opens p some fit small written =
+    let file : IsFile seen gate p.before = record { frames = p.frames; each = p.each; rest = p.rest; is = p.is; opened = p.opened } in
+    file-parsed after (gate + (9 + length (body rs))) p.last (file-more seen after gate p.before p.last rs byte opens file p.made some fit small written) heads batch p.ends p.all
+
+-- its frames are those that are read of it
+pub file-frames : (seen : List ℕ) (gate : ℕ) (read : Read) (f : IsFile seen gate read) → or_none (frames_of (drop 8 seen)) ≡ f.frames
+file-frames seen gate read f =
+    let inner : drop 8 seen ≡ frames_bytes f.frames ++ 0 ∷ f.rest = ap (drop 8) f.is ∙ drop_at opening (frames_bytes f.frames ++ 0 ∷ f.rest) 8 refl in
+    ap or_none (ap frames_of inner ∙ frames-again f.frames f.rest f.each)
+
+-- and with one frame more
+pub frames-more : (seen after : List ℕ) (gate : ℕ) (before last : Read) (rs : List Record) (byte : ℕ) (opens : byte ≢ 0) (f : IsFile seen gate before) (made : steps (gate + 9) before rs ≡ Some last) (some : rs ≢ []) (fit : AllByRecursion Fits rs)
+    (small : gate + (9 + length (body rs)) + room_for last.begun < 2 ^ 63) (written : IsWritten gate seen (record { gate = byte; records = rs }) after)
+    → or_none (frames_of (drop 8 after)) ≡ or_none (frames_of (drop 8 seen)) ++ record { gate = byte; records = rs } ∷ []
+unfolding file-more
+frames-more seen after gate before last rs byte opens f made some fit small written =
+    file-frames after (gate + (9 + length (body rs))) last (file-more seen after gate before last rs byte opens f made some fit small written)
+    ∙ ap (λ (l : List Frame). l ++ record { gate = byte; records = rs } ∷ []) (sym (file-frames seen gate before f))
+
+-- what a file says of which the frames are known
+pub says : (seen : List ℕ) (gate : ℕ) (read : Read) (f : IsFile seen gate read) → or_start (said_by f.frames) ≡ progress_in seen
+says seen gate read f =
+    let inner : drop 8 seen ≡ frames_bytes f.frames ++ 0 ∷ f.rest = ap (drop 8) f.is ∙ drop_at opening (frames_bytes f.frames ++ 0 ∷ f.rest) 8 refl in
+    ap (λ (frames : List Frame). or_start (said_by frames)) (sym (ap or_none (ap frames_of inner ∙ frames-again f.frames f.rest f.each)))
+
+-- and with one frame more
+pub says-more : (seen after : List ℕ) (gate : ℕ) (before last : Read) (rs : List Record) (byte : ℕ) (opens : byte ≢ 0) (f : IsFile seen gate before) (made : steps (gate + 9) before rs ≡ Some last) (some : rs ≢ []) (fit : AllByRecursion Fits rs)
+    (small : gate + (9 + length (body rs)) + room_for last.begun < 2 ^ 63) (written : IsWritten gate seen (record { gate = byte; records = rs }) after) → said_by f.frames ≡ Some (progress_in seen) → progress_in after ≡ progress_then seen gate rs
+unfolding file-more
+says-more seen after gate before last rs byte opens f made some fit small written said =
+    let frame : Frame = record { gate = byte; records = rs } in
+    let g = file-more seen after gate before last rs byte opens f made some fit small written in
+    let t = stepped gate before f.frames f.opened in
+    sym (says after (gate + (9 + length (body rs))) last g)
+    ∙ ap or_start (turns-append entry_at (takes_event effect_of_entry) 8 (outside []) f.frames frame
+    ∙ ap (λ (x : Option Meant). x >>= λ q. meant_turns (gate_after 8 f.frames + 9) q rs) said
+    ∙ ap (λ n. meant_turns (n + 9) (progress_in seen) rs) t.ends)
+
+-- the same of a file that stands
+pub frame-says : (seen after : List ℕ) (gate : ℕ) (spilled : Bool) (rs : List Record) (batch : Option ℕ) (heads : List (List Head)) (byte : ℕ) → byte ≢ 0 → (p : Parsed seen gate spilled rs batch heads) → rs ≢ [] → AllByRecursion Fits rs
+    → gate + (9 + length (body rs)) + room_for p.last.begun < 2 ^ 63 → IsWritten gate seen (record { gate = byte; records = rs }) after → progress_in after ≡ progress_then seen gate rs
+frame-says seen after gate spilled rs batch heads byte opens p some fit small written =
+    let file : IsFile seen gate p.before = record { frames = p.frames; each = p.each; rest = p.rest; is = p.is; opened = p.opened } in
+    says-more seen after gate p.before p.last rs byte opens file p.made some fit small written (progress-in seen gate spilled rs batch heads p seen (0 ∷ p.rest) p.is).0

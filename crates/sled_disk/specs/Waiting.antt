@@ -1,39 +1,46 @@
 -- The next frame as a log's clauses see it.
-use Rattle.std.specs.Prelude.{◌≡◌, ◌≤◌, ◌+◌, ◌-◌, false, ℕ, ℤ, pos, Bool, List, [], ◌∷◌, ◌++◌, length}
+use Rattle.std.specs.Prelude.{◌≤◌, ◌+◌, ◌-◌, ℕ, ℤ, pos, Bool, true, Option, Some, None, List, [], ◌∷◌, ◌++◌, length, if◌then◌else◌}
+use Rattle.sled_base.specs.Kinds.{byte_of}
 use Rattle.sled_base.specs.declared.kinds.MessageKind.{MessageKind}
 use Rattle.sled_base.specs.declared.types.DiskPtr.{DiskPtr}
 use Rattle.sled_base.specs.declared.types.DiskPtr.TheVariants.{Inline}
-use Rattle.sled_log.specs.Events.{is_open}
-use Rattle.sled_log.specs.Events.{Event, Change}
+use Rattle.sled_log.specs.Events.{Event}
 use Rattle.sled_log.specs.Limits.{head_size}
 use Rattle.sled_log.specs.LogState.{LogState}
-use Rattle.sled_log.specs.Messages.{Entry, message, placed_entry}
+use Rattle.sled_log.specs.Messages.{Entry}
 use Rattle.sled_disk.specs.declared.next_frame.NextFrame.{NextFrame}
-use Rattle.sled_disk.specs.Format.{events_at, entry_at}
+use Rattle.sled_disk.specs.Format.{Record, Progress}
 use Rattle.sled_disk.specs.Pending.{pending_in, state_in, frame_size}
 use Rattle.sled_disk.specs.Ready.{IsFull}
-use Rattle.sled_disk.specs.Standing.{records_behind}
+use Rattle.sled_disk.specs.Standing.{records_behind, progress_then}
 
 -- the events that are pending, the marks of batches among them
-abbrev pub pending_of : NextFrame → List (Event Entry)
-pending_of next = pending_in next.gate next.marks.items next.buffer.items
+abbrev pub pending_of : List ℕ → NextFrame → List (Event Entry)
+pending_of seen next = pending_in seen next.gate next.spilled next.buffer.items
 
 -- the log over a file with these bytes
 abbrev pub state_of : List ℕ → NextFrame → Bool → LogState Entry
-state_of seen next usable = state_in seen next.gate next.marks.items next.buffer.items usable
+state_of seen next usable = state_in seen next.gate next.spilled next.buffer.items usable
 
--- how many bytes will be written: a length, the records, the gate behind them, and the one before; none where nothing is pending
+-- the batch that is open, by the place of its first record
+abbrev pub batch_of : NextFrame → Option ℕ
+batch_of next = if next.batch then Some next.batch_place else None
+
+-- how many bytes will be written: a length, the records, the gate behind them, and the one before; none where no record is pending
 abbrev pub size_of : NextFrame → ℕ
-size_of next = frame_size next.marks.items next.buffer.items
+size_of next = frame_size next.buffer.items
 
--- whether the gate behind it, with a payload of so many bytes more, would stand above the greatest i64
+-- whether the gate behind it, with a payload of so many bytes more, would stand above the greatest i64; and so for the first record of
+-- a batch
 abbrev pub IsFullFor : NextFrame → ℕ → Type 0
-IsFullFor next n = IsFull next.gate next.buffer.items n
+IsFullFor next n = IsFull next.gate next.buffer.items next.batch n
 
--- whether a message with a payload of so many bytes makes a frame be written: no batch is open, and with it `segment` bytes wait
-pub record IsDue (segment : ℕ) (next : NextFrame) (n : ℕ) : Type 0 where
-  pub closed : is_open (pending_of next) ≡ false
-  pub enough : segment ≤ length next.buffer.items - 8 + (head_size + n)
+abbrev pub IsFullForBatch : NextFrame → Type 0
+IsFullForBatch next = IsFull next.gate next.buffer.items true 0
+
+-- whether a message with a payload of so many bytes makes a frame be written: with it `segment` bytes wait
+abbrev pub IsDue : ℕ → NextFrame → ℕ → Type 0
+IsDue segment next n = segment ≤ length next.buffer.items - 8 + (head_size + n)
 
 -- where the next record will stand, and what is said of a message there
 abbrev pub place_of : NextFrame → ℕ
@@ -42,9 +49,16 @@ place_of next = next.gate + 1 + length next.buffer.items
 abbrev pub said_of : NextFrame → List ℕ → ℤ × DiskPtr × ℕ
 said_of next payload = (pos (place_of next), Inline (place_of next), head_size + length payload)
 
--- the events that the frame will add to the file, and those with one message more
-abbrev pub events_of : NextFrame → List (Event Entry)
-events_of next = events_at entry_at (next.gate + 9) (records_behind next.buffer.items)
+-- the records that wait, with one message more
+abbrev pub records_with : NextFrame → MessageKind → ℕ → List ℕ → List Record
+records_with next kind pid payload = records_behind next.buffer.items ++ record { kind = byte_of kind; id = pid; payload = payload } ∷ []
 
-abbrev pub events_with : NextFrame → MessageKind → ℕ → List ℕ → List (Event Entry)
-events_with next kind pid payload = events_of next ++ Change pid (placed_entry (message kind payload) (said_of next payload)) ∷ []
+-- what the file will say with the frame, the events of it, and those with one message more
+abbrev pub progress_of : List ℕ → NextFrame → Progress Entry (List (Event Entry))
+progress_of seen next = progress_then seen next.gate (records_behind next.buffer.items)
+
+abbrev pub events_of : List ℕ → NextFrame → List (Event Entry)
+events_of seen next = (progress_of seen next).settled
+
+abbrev pub events_with : List ℕ → NextFrame → MessageKind → ℕ → List ℕ → List (Event Entry)
+events_with seen next kind pid payload = (progress_then seen next.gate (records_with next kind pid payload)).settled

@@ -73,7 +73,7 @@ pub trait Disk: Drop {
         ensures cause { HasCause (counts self.old) (counts self.new) result }
         ensures reads { (counts self.new).reads ≡ one_more (counts self.old).reads };
 
-    /// Makes room for writes of so many bytes together, two at most, and the syncs after them. A disk that keeps what is written until
+    /// Makes room for writes of so many bytes together, four at most, and the syncs after them. A disk that keeps what is written until
     /// it is handed on takes its memory here, so they need none; others have nothing to do. Nothing is written: no byte, crash state or
     /// count changes.
     fn make_room(&mut self, len: usize) -> Result<(), LogError>

@@ -6,7 +6,7 @@ ghost use Rattle.sled_log.specs.declared.log.LogError.TheVariants.{WriteFault};
 ghost use Rattle.sled_disk.specs.Crash.{BytesLeft, IsClosed, IsShutOrOpened, IsWhole};
 ghost use Rattle.sled_disk.specs.Disk.{Only};
 ghost use Rattle.sled_disk.specs.Format.{number_bytes, record_bytes, IsBytes};
-ghost use Rattle.sled_disk.specs.Pending.{marked_at, frame_in};
+ghost use Rattle.sled_disk.specs.Pending.{frame_in};
 
 use crate::disk::Disk;
 use sled_base::PageId;
@@ -14,7 +14,7 @@ use sled_log::LogError;
 
 // A number as 8 bytes, the lowest first.
 #[tactic(auto, unfolding(crate::specs::Format::number_bytes))]
-fn bytes_of(number: u64) -> [u8; 8]
+pub(crate) fn bytes_of(number: u64) -> [u8; 8]
     ensures bytes { result ≡ number_bytes number }
     ensures length { length result ≡ 8 }
 {
@@ -78,27 +78,6 @@ pub(crate) fn empty(buffer: &mut Vec<u8>)
     ensures are_bytes { IsBytes buffer.old.items → IsBytes buffer.new.items }
 {
     buffer.truncate(8);
-}
-
-// Seals the batch whose mark stands there, with the place of its last record.
-pub(crate) fn mark(buffer: &mut [u8], at: usize, last: u64)
-    requires { at + 25 ≤ length buffer.old }
-    ensures marked { buffer.new ≡ marked_at at last buffer.old }
-    ensures are_bytes { IsBytes buffer.new }
-{
-    buffer[at] = 3;
-    buffer[at + 17..at + 25].copy_from_slice(&bytes_of(last));
-}
-
-// The same in a buffer.
-pub(crate) fn mark_in(buffer: &mut Vec<u8>, at: usize, last: u64)
-    requires { at + 25 ≤ length buffer.old.items }
-    ensures items { buffer.new.items ≡ marked_at at last buffer.old.items }
-    ensures len { vec_len buffer.new ≡ vec_len buffer.old }
-    ensures capacity { vec_capacity buffer.old ≤ vec_capacity buffer.new }
-    ensures are_bytes { IsBytes buffer.new.items }
-{
-    mark(buffer, at, last);
 }
 
 // Writes a frame behind a closed gate, and opens the gate once the frame is durable.

@@ -4,7 +4,7 @@ ghost use Rattle.std.specs.Prelude.{◌≡◌, ℕ, ◌+◌, List, [], ◌++◌,
 ghost use Rattle.sled_log.specs.Events.{Event};
 ghost use Rattle.sled_log.specs.Messages.{Entry};
 ghost use Rattle.sled_disk.specs.Durable.{MayFollow, IsWritten};
-ghost use Rattle.sled_disk.specs.Format.{Describes, DescribesTo, Frame, body, events_at, entry_at};
+ghost use Rattle.sled_disk.specs.Format.{Describes, DescribesTo, Frame, body};
 ghost use Rattle.sled_disk.specs.Ready.{IsLogOf};
 
 use crate::disk::Disk;
@@ -25,15 +25,14 @@ pub fn bytes_behind_the_gate_say_nothing()
         → DescribesTo gate other events }
 {}
 
-/// A frame that was written behind the closed gate, which was opened, adds exactly its events.
+/// A frame that was written behind the closed gate, which was opened, adds exactly the events that it says: those outside a batch, and
+/// those of each batch that it closes.
 pub fn a_frame_adds_its_events()
-    ensures { (gate : ℕ) (bytes : List ℕ) (events : List (Event Entry)) (frame : Frame)
-        (after : List ℕ)
-        → DescribesTo gate bytes events
-        → MayFollow gate events frame
+    ensures { (gate : ℕ) (bytes : List ℕ) (events after_events : List (Event Entry))
+        (frame : Frame) (after : List ℕ) (was : DescribesTo gate bytes events)
+        → MayFollow gate events was.begun frame after_events
         → IsWritten gate bytes frame after
-        → DescribesTo (gate + (9 + length (body frame.records))) after
-        (events ++ events_at entry_at (gate + 9) frame.records) }
+        → DescribesTo (gate + (9 + length (body frame.records))) after after_events }
 {}
 
 /// A log of which nothing is pending is the log of the bytes that its disk shows: all that they describe, durable.

@@ -1,13 +1,13 @@
 //! The log of the page cache on a disk.
 #![tactic(auto)]
 
+mod abandoning;
 mod disk;
 mod frame;
 mod head;
 mod law_of_crashes;
 pub mod laws;
 mod log;
-mod mark;
 mod names;
 mod next_frame;
 mod pages;

@@ -11,21 +11,23 @@ ghost use Rattle.sled_disk.specs.Crash.{BytesLeft, IsTornOf};
 ghost use Rattle.sled_disk.specs.Disk.{Only, overlaid, LeavesTheSame};
 ghost use Rattle.sled_disk.specs.Format.{Describes, opening};
 ghost use Rattle.sled_disk.specs.GoesOn.{GoesOn};
+ghost use Rattle.sled_disk.specs.Counting.{IsLooked};
 ghost use Rattle.sled_disk.specs.Cursor.{IsAmong};
-ghost use Rattle.sled_disk.specs.Names.{moves_in, messages_in};
+ghost use Rattle.sled_disk.specs.Names.{moves_in, messages_in, all_messages};
 ghost use Rattle.sled_disk.specs.OnDisk.{Rests};
 ghost use Rattle.sled_disk.specs.HeadLaws.{are_heads-prop, end_by-prop};
 ghost use Rattle.sled_disk.specs.Opened.{AllEndBy, AreHeads};
 ghost use Rattle.sled_disk.specs.Reading.{chains_of, effect_of_head};
-ghost use Rattle.sled_disk.specs.Ready.{IsLogOf, IsBeforeOrAfter};
-ghost use Rattle.sled_disk.specs.Standing.{Stands, records_behind, events_in};
-ghost use Rattle.sled_disk.specs.Waiting.{pending_of, state_of, place_of, said_of, events_of, events_with, IsFullFor};
+ghost use Rattle.sled_disk.specs.Ready.{IsLogOf, IsEither, LeavesTheMeaning};
+ghost use Rattle.sled_disk.specs.Standing.{Stands, records_behind, events_in, progress_in};
+ghost use Rattle.sled_disk.specs.Waiting.{state_of, place_of, said_of, events_of, progress_of, records_with, batch_of, IsFullFor};
 
+use crate::abandoning::{finish, gate_behind};
 use crate::disk::Disk;
 use crate::head::Head;
 use crate::names::Names;
 use crate::next_frame::NextFrame;
-use crate::pages::take_head;
+use crate::pages::{is_change, take_head};
 use crate::reader::Reader;
 use sled_base::{MessageKind, PageId};
 use sled_log::{Log, LogError};
@@ -43,7 +45,8 @@ const EMPTY: [u8; 9] = [0x53, 0x4c, 0x50, 0x43, 0x4c, 0x4f, 0x47, 0x31, 0];
 /// A log on a disk, which `create` made empty once, and on which each `open` finds all that is durable.
 ///
 /// What is pending waits in memory, and is written as one frame: after a closed gate, which is opened once the frame is durable. So
-/// at any moment a crash leaves all that was durable, and all of a frame or nothing of it, and what it leaves opens again.
+/// at any moment a crash leaves all that was durable, and all of a frame or nothing of it, and what it leaves opens again. A batch may go
+/// over several frames: it counts once the record that closes it is in one, and where a crash cuts it before, `open` marks it as abandoned.
 ///
 /// Full: the place of the next gate would be above `i64::MAX`. Memory: an allocation failed, in the log or for what the disk is to
 /// keep; `make_stable`, `seal` and `cancel` need none. Corruption is for a place that the log doesn't hold, and a change that fits no
@@ -53,7 +56,7 @@ const EMPTY: [u8; 9] = [0x53, 0x4c, 0x50, 0x43, 0x4c, 0x4f, 0x47, 0x31, 0];
 pub struct DiskLog<D: Disk> {
     alloc: Global,
     disk: D,
-    // at so many bytes of pending records an append outside a batch writes a frame
+    // at so many bytes of pending records an append writes a frame
     segment_size: u64,
     // a message is due to be moved for every so many that are appended
     clean_every: u64,
@@ -66,9 +69,10 @@ pub struct DiskLog<D: Disk> {
     reads: u64,
     ghost heads: { AllByRecursion AreHeads (chains_of pages.items) } by { are_heads-prop (chains_of pages.items) },
     ghost ends: { usable ≡ true → AllEndBy (place_of next) (chains_of pages.items) } by { end_by-prop usable (place_of next) (chains_of pages.items) },
-    ghost stands: { D.tells → usable ≡ true → Stands (D.seen disk) next.gate (records_behind next.buffer.items) (chains_of pages.items) },
+    ghost stands: { D.tells → usable ≡ true → Stands (D.seen disk) next.gate next.spilled (records_behind next.buffer.items) (batch_of next) (chains_of pages.items) },
     ghost durable: { D.tells → usable ≡ true → Only (D.seen disk) (D.may_leave disk) },
     ghost stood: { D.tells → usable ≡ true → IsAmong (D.seen disk) (records_behind next.buffer.items) names.gate names.at },
+    ghost looked: { D.tells → usable ≡ true → IsLooked (D.seen disk) (records_behind next.buffer.items) names },
     ghost counted: { usable ≡ true → names.appended ≤ place_of next },
 }
 
@@ -96,17 +100,19 @@ impl<D: Disk> DiskLog<D> {
     }
 
     /// The log of a file on a disk, which is read, and of which the last open gate is written again and synced: all that the file describes
-    /// is durable, and nothing is pending.
+    /// is durable, and nothing is pending. Where the file ends inside a batch, a frame is written that says so; it describes the same.
     ///
-    /// An `append` outside a batch that leaves `segment_size` bytes of records pending writes them, which takes two syncs. So between two
+    /// An `append` that leaves `segment_size` bytes of records pending writes them, which takes two syncs. So between two
     /// flushes a log syncs twice for each `segment_size` bytes: some thousands keep little in memory, a million suits many writes in a
     /// row. For every `clean_every` messages that are appended one is due to be moved, the first of the
-    /// file before all others (0: none). An append reads which one that is, by 16 short reads at most; where a read fails, or many
-    /// marks of batches stand before it, none is due until a later append has read it.
+    /// file before all others (0: none, and no append reads). An append looks for the next one as long as it is not known, also before it
+    /// is due: over 256 records and ends of frames at most, by 512 short reads. A batch that the file had at its opening is gone over before
+    /// its first message is known. Where a read fails, or more stands before the next one than the appends since the last name have gone
+    /// over, none is due until a later append has found it.
     ///
     /// Corruption: the file describes no events, as one with fewer than nine bytes; no crash of a log leaves such a file. ReadFault and
-    /// WriteFault: the device failed to read, or to write that byte or to sync. Memory: an allocation failed. At an error the disk comes
-    /// back, on which nothing else was done.
+    /// WriteFault: the device failed to read, or to write or to sync. Memory: an allocation failed. At an error the disk comes
+    /// back. But for a WriteFault no crash state came to it; and whatever was written, it describes what the file described.
     pub fn open(
         alloc: Global,
         mut disk: D,
@@ -126,12 +132,14 @@ impl<D: Disk> DiskLog<D> {
             (λ log. (moves_in (D.seen log.disk) log.next log.names).waiting
             ≡ messages_in (events_in (D.seen disk))) }
         ensures appended { IfOk result (λ log. log.names.appended ≡ 0) }
-        ensures rests { IfOk result
-            (λ log. Rests D.tells D.seen D.may_leave D.moment D.left_since disk log.disk) }
+        ensures any_moment { IfOk result
+            (λ log. LeavesTheMeaning D.tells D.seen D.may_leave D.moment D.left_since disk log.disk) }
         ensures corrupt { D.tells → IfErr result (λ e. e.0 ≡ Corruption
             → (events : List (Event Entry)) → Describes (D.seen disk) events → ⊥) }
         ensures left { IfErr result
-            (λ e. LeavesTheSame D.tells D.may_leave D.moment D.left_since disk e.1) }
+            (λ e. LeavesTheMeaning D.tells D.seen D.may_leave D.moment D.left_since disk e.1) }
+        ensures unwritten { IfErr result (λ e. e.0 ≢ WriteFault
+            → LeavesTheSame D.tells D.may_leave D.moment D.left_since disk e.1) }
         ensures seen { D.tells → IfErr result (λ e. e.0 ≢ WriteFault → D.seen e.1 ≡ D.seen disk) }
         ensures not_full { IfErr result (λ e. e.0 ≢ Full) }
         ensures read_fault { IfErr result (λ e. e.0 ≡ ReadFault
@@ -155,9 +163,9 @@ impl<D: Disk> DiskLog<D> {
     /// The log of a file that was read and is durable: the last step of `open`, behind `Reader::begin`, `Reader::read` and
     /// `Reader::make_durable`, for a caller who goes on after a fault. The two numbers are those of `open`.
     ///
-    /// ReadFault: the device failed to read. Memory: an allocation failed. Corruption: the file describes no events. At an error the
-    /// disk comes back, which was read at most, and beside it the reader: with both the call can be made again, and goes on where it
-    /// was.
+    /// ReadFault: the device failed to read. Memory: an allocation failed. Corruption: the file describes no events. WriteFault: it ends
+    /// inside a batch, and the device failed to write what says so. At an error the disk comes back, and beside it the reader. But for a
+    /// WriteFault the disk was read at most, and with both the call can be made again, and goes on where it was.
     pub fn open_with(
         alloc: Global,
         mut reader: Reader,
@@ -180,25 +188,35 @@ impl<D: Disk> DiskLog<D> {
             (λ log. (moves_in (D.seen log.disk) log.next log.names).waiting
             ≡ messages_in (events_in (D.seen disk))) }
         ensures appended { IfOk result (λ log. log.names.appended ≡ 0) }
-        ensures rests { IfOk result
-            (λ log. Rests D.tells D.seen D.may_leave D.moment D.left_since disk log.disk) }
-        ensures goes_on { D.tells → IfErr result (λ e. GoesOn (D.seen e.2) e.1) }
-        ensures synced { D.tells → IfErr result (λ e. Only (D.seen e.2) (D.may_leave e.2)) }
-        ensures only_read { IfErr result
-            (λ e. Rests D.tells D.seen D.may_leave D.moment D.left_since disk e.2) }
+        ensures any_moment { IfOk result
+            (λ log. LeavesTheMeaning D.tells D.seen D.may_leave D.moment D.left_since disk log.disk) }
+        ensures goes_on { D.tells → IfErr result (λ e. e.0 ≢ WriteFault → GoesOn (D.seen e.2) e.1) }
+        ensures synced { D.tells
+            → IfErr result (λ e. e.0 ≢ WriteFault → Only (D.seen e.2) (D.may_leave e.2)) }
+        ensures only_read { IfErr result (λ e. e.0 ≢ WriteFault
+            → Rests D.tells D.seen D.may_leave D.moment D.left_since disk e.2) }
+        ensures left { IfErr result
+            (λ e. LeavesTheMeaning D.tells D.seen D.may_leave D.moment D.left_since disk e.2) }
         ensures corrupt { D.tells → IfErr result (λ e. e.0 ≡ Corruption
             → (events : List (Event Entry)) → Describes (D.seen disk) events → ⊥) }
-        ensures only { IfErr result (λ e. (e.0 ≡ Memory) ⊎ (e.0 ≡ ReadFault) ⊎ (e.0 ≡ Corruption)) }
+        ensures only { IfErr result (λ e. (e.0 ≡ Memory) ⊎ (e.0 ≡ ReadFault) ⊎ (e.0 ≡ WriteFault)
+            ⊎ (e.0 ≡ Corruption)) }
         ensures read_fault { IfErr result (λ e. e.0 ≡ ReadFault
             → HasGrown (D.counts disk).failed_reads (D.counts e.2).failed_reads) }
+        ensures write_fault { IfErr result (λ e. e.0 ≡ WriteFault
+            → HasGrown (D.counts disk).write_faults (D.counts e.2).write_faults) }
     {
         let gate = match reader.read(&mut disk) {
             Ok(gate) => gate,
             Err(e) => return Err((e, reader, disk)),
         };
-        let Ok(next) = NextFrame::new(alloc, gate) else {
+        let begun = reader.begun();
+        let Ok(next) = NextFrame::new(alloc, gate_behind(gate, begun)) else {
             return Err((LogError::Memory, reader, disk));
         };
+        if let Err(e) = finish(alloc, &mut disk, gate, begun) {
+            return Err((e, reader, disk));
+        }
         let pages = reader.into_pages();
         Ok(DiskLog {
             alloc,
@@ -206,7 +224,7 @@ impl<D: Disk> DiskLog<D> {
             segment_size,
             clean_every,
             pages,
-            names: Names::new(),
+            names: Names::new(next.gate()),
             next,
             usable: true,
             reads: 0,
@@ -250,12 +268,10 @@ impl<D: Disk> DiskLog<D> {
         ensures pages { self.new.pages.items ≡ self.old.pages.items }
         ensures gate { self.new.next.gate ≡ self.old.next.gate }
         ensures buffer { self.new.next.buffer.items ≡ self.old.next.buffer.items }
-        ensures marks { self.new.next.marks.items ≡ self.old.next.marks.items }
-        ensures batch { self.new.next.batch ≡ self.old.next.batch }
+        ensures batch { batch_of self.new.next ≡ batch_of self.old.next }
+        ensures spilled { self.new.next.spilled ≡ self.old.next.spilled }
         ensures room { OnOk result
-            (vec_len self.new.next.buffer + 18 + len ≤ vec_capacity self.new.next.buffer) }
-        ensures mark_room { OnOk result
-            (vec_len self.new.next.marks + 2 ≤ vec_capacity self.new.next.marks) }
+            (vec_len self.new.next.buffer + 43 + len ≤ vec_capacity self.new.next.buffer) }
         ensures names { self.new.names ≡ self.old.names }
         ensures only { IfErr result (λ e. e ≡ Memory) }
     {
@@ -274,34 +290,33 @@ impl<D: Disk> DiskLog<D> {
         ensures usable { self.new.usable ≡ true }
         ensures reads { self.new.reads ≡ self.old.reads }
         ensures gate { self.new.next.gate ≡ self.old.next.gate }
-        ensures batch { self.new.next.batch ≡ self.old.next.batch }
-        ensures added { D.tells
-            → OnOk result (pending_of self.new.next ≡ pending_of self.old.next ++ Change pid
-            (placed_entry (message kind payload.now) (said_of self.old.next payload.now)) ∷ []) }
-        ensures written { D.tells → OnOk result
-            (events_of self.new.next ≡ events_with self.old.next kind pid payload.now) }
-        ensures kept { OnErr result (pending_of self.new.next ≡ pending_of self.old.next) }
+        ensures batch { batch_of self.new.next ≡ batch_of self.old.next }
+        ensures spilled { self.new.next.spilled ≡ self.old.next.spilled }
+        ensures added { OnOk result (records_behind self.new.next.buffer.items
+            ≡ records_with self.old.next kind pid payload.now) }
+        ensures kept { OnErr result (self.new.next.buffer.items ≡ self.old.next.buffer.items) }
         ensures settings { (self.new.segment_size ≡ self.old.segment_size)
             × (self.new.clean_every ≡ self.old.clean_every) }
         ensures some { OnOk result (8 < length self.new.next.buffer.items) }
         ensures len { OnOk result (length self.new.next.buffer.items
             ≡ length self.old.next.buffer.items + 17 + length payload.now) }
-        ensures mark { OnOk result (0 < length self.new.next.marks.items) }
         ensures place { IfOk result (λ place. place ≡ place_of self.old.next) }
         ensures small { IfOk result (λ place. place + 17 + length payload.now < 2 ^ 63) }
         ensures full { IsErrOf result Full ↔ IsFullFor self.old.next (length payload.now) }
         ensures sound { can_append effect_of_head (chains_of self.old.pages.items) pid kind ≡ true
             → IsErrOf result Corruption → ⊥ }
         ensures only { IfErr result (λ e. (e ≡ Memory) ⊎ (e ≡ Full) ⊎ (e ≡ Corruption)) }
-        ensures at { self.new.names.at ≡ self.old.names.at }
-        ensures read { self.new.names.read ≡ self.old.names.read }
+        ensures places { self.new.names ≡ record self.old.names { appended = self.new.names.appended } }
         ensures counted { OnOk result (0 < self.old.clean_every
             → self.new.names.appended ≡ self.old.names.appended + 1) }
         ensures unnamed { OnErr result (self.new.names ≡ self.old.names) }
         ensures unwritten { OnErr result (self.new.next.buffer.items ≡ self.old.next.buffer.items) }
     {
-        if self.next.is_full(payload.len()) {
+        if self.next.is_full(self.next.batch_open(), payload.len()) {
             return Err(LogError::Full);
+        }
+        if !is_change(kind) {
+            return Err(LogError::Corruption);
         }
         self.make_room(payload.len())?;
         let place = self.next.place();
@@ -314,7 +329,7 @@ impl<D: Disk> DiskLog<D> {
 
     // Writes what is pending as a frame.
     //
-    // At any moment of a crash the file describes what was durable, with all that was pending or without.
+    // At any moment of a crash the file describes what was durable, with all that the frame makes of it or without.
     fn write_next(&mut self) -> Result<(), LogError>
         requires usable { self.old.usable ≡ true }
         requires some { 8 < length self.old.next.buffer.items }
@@ -322,16 +337,18 @@ impl<D: Disk> DiskLog<D> {
         ensures reads { self.new.reads ≡ self.old.reads }
         ensures settings { (self.new.segment_size ≡ self.old.segment_size)
             × (self.new.clean_every ≡ self.old.clean_every) }
-        ensures none { self.new.next.marks.items ≡ [] }
-        ensures batch { self.new.next.batch ≡ false }
-        ensures stable { D.tells → OnOk result (events_in (D.seen self.new.disk)
-            ≡ events_in (D.seen self.old.disk) ++ events_of self.old.next) }
+        ensures buffer { length self.new.next.buffer.items ≡ 8 }
+        ensures batch { batch_of self.new.next ≡ batch_of self.old.next }
+        ensures spilled { self.new.next.spilled ≡ self.old.next.batch }
+        ensures stable { D.tells → OnOk result (progress_in (D.seen self.new.disk)
+            ≡ progress_of (D.seen self.old.disk) self.old.next) }
         ensures any_moment { D.tells → BytesLeft D.moment D.left_since self.old.disk self.new.disk
-            (IsBeforeOrAfter (events_in (D.seen self.old.disk)) (events_of self.old.next)) }
+            (IsEither (events_in (D.seen self.old.disk)) (events_of (D.seen self.old.disk) self.old.next)) }
         ensures only { IfErr result (λ e. e ≡ WriteFault) }
         ensures cause { HasCause (D.counts self.old.disk) (D.counts self.new.disk) result }
         ensures names { self.new.names ≡ self.old.names }
-        ensures empty { events_of self.new.next ≡ [] }
+        ensures messages { D.tells → OnOk result (all_messages (D.seen self.new.disk) self.new.next
+            ≡ all_messages (D.seen self.old.disk) self.old.next) }
         ensures disk_reads { (D.counts self.new.disk).reads ≡ (D.counts self.old.disk).reads }
     {
         let wrote = self.next.write(&mut self.disk);

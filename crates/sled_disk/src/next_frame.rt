@@ -1,52 +1,52 @@
 //! The frame that comes next: the records that are pending, as they will be written.
 
 ghost use Rattle.std.specs.Prelude.{◌≡◌, ◌≤◌, ◌<◌, ◌+◌, ◌-◌, ◌^◌, ◌⊎◌, ◌++◌, ◌↔◌, ℕ, [], ◌∷◌, true, false, length, take, drop, replicate, Some, IfOk, OnOk, OnErr, IfErr, IfSome, IfNone, IsErrOf, IsTrue, vec_len, vec_capacity};
+ghost use Rattle.std.specs.List.{list_all};
 ghost use Rattle.sled_log.specs.Calls.{HasCause};
 ghost use Rattle.sled_log.specs.declared.log.LogError.TheVariants.{Memory, WriteFault, Corruption};
-ghost use Rattle.sled_disk.specs.declared.mark.Mark.TheVariants.{Change, Pin, Seal, Cancel};
 ghost use Rattle.sled_disk.specs.Cursor.{IsFront};
 ghost use Rattle.sled_disk.specs.Crash.{BytesLeft, IsClosed, IsShutOrOpened, IsWhole};
 ghost use Rattle.sled_disk.specs.Disk.{Only};
-ghost use Rattle.sled_disk.specs.Format.{record_bytes, IsBytes};
-ghost use Rattle.sled_disk.specs.Pending.{open_by, count, batch_at, begun_record, sealed_in, frame_in, frame_size};
+ghost use Rattle.sled_disk.specs.Format.{record_bytes, IsBytes, begin_record, closing_record};
+ghost use Rattle.sled_disk.specs.Pending.{open_by, open_behind, is_own, closing_room, room_after, frame_in, frame_size};
 ghost use Rattle.sled_disk.specs.Reading.{records_of};
 ghost use Rattle.sled_disk.specs.Ready.{IsFull};
 ghost use Rattle.sled_disk.specs.Standing.{records_behind};
 
 use crate::disk::Disk;
-use crate::frame::{close, empty, mark_in, push_record, put, write_frame};
-use crate::mark::Mark;
-use crate::reading::{MAX_PLACE, RawHead, head_in};
+use crate::frame::{bytes_of, close, empty, push_record, put, write_frame};
+use crate::reading::{BEGIN, CANCELLED, END, MARK_ID, MAX_PLACE, RawHead, head_in};
 use sled_base::PageId;
-use sled_base::growth::reserve;
 use sled_log::LogError;
 use std::alloc::{AllocError, Global};
 
-// The records that are pending, and the marks of batches between them. They will stand behind the present gate.
+// The record that closes a batch has so many bytes,
+pub(crate) const CLOSING: usize = 25;
+
+// and a frame of it alone needs so much behind the present gate.
+pub(crate) const CLOSING_FRAME: u64 = 34;
+
+// The records that are pending, those that mark batches among them. They will stand behind the present gate.
 #[derive(Drop)]
 pub(crate) struct NextFrame {
     // the place of the present gate
     gate: u64,
-    // 8 bytes for a length, the pending records, and room for a gate
+    // 8 bytes for a length, the pending records, and room for a gate and the record that closes a batch
     buffer: Vec<u8>,
-    // what the pending records are, and the marks between them
-    marks: Vec<Mark>,
-    // whether a batch is open; where its record will stand, and the last record behind it
+    // whether a batch is open, and where its first record will stand or stands
     batch: bool,
     batch_place: u64,
-    last_place: u64,
+    // whether the frames that were written end inside a batch
+    spilled: bool,
     ghost are_bytes: { IsBytes buffer.items },
     ghost parsed: { records_of (drop 8 buffer.items) ≡ Some (records_behind buffer.items) },
     ghost front: { 8 ≤ length buffer.items },
-    ghost room: { vec_len buffer < vec_capacity buffer },
+    ghost room: { vec_len buffer + closing_room batch < vec_capacity buffer },
     ghost small: { gate < 2 ^ 63 },
-    ghost fits: { 8 < length buffer.items → gate + 1 + length buffer.items < 2 ^ 63 },
-    ghost counted: { count marks.items ≡ length (records_behind buffer.items) },
-    ghost begun: { 0 < length marks.items → 8 < length buffer.items },
-    ghost batch_is: { batch ≡ open_by false marks.items },
-    // a batch that is open has room for its closing mark
-    ghost mark_room: { batch ≡ true → vec_len marks < vec_capacity marks },
-    ghost batch_stands: { batch ≡ true → batch_at (gate + 9) batch_place last_place (records_behind buffer.items) ≡ true },
+    ghost fits: { 8 < length buffer.items → gate + 1 + length buffer.items + room_after batch < 2 ^ 63 },
+    ghost closes: { gate + room_after batch < 2 ^ 63 },
+    ghost batch_is: { batch ≡ open_by spilled (records_behind buffer.items) },
+    ghost own: { list_all is_own (records_behind buffer.items) ≡ true },
 }
 
 impl NextFrame {
@@ -54,7 +54,8 @@ impl NextFrame {
     pub(crate) fn new(alloc: Global, gate: u64) -> Result<NextFrame, AllocError>
         requires { gate < 2 ^ 63 }
         ensures gate { IfOk result (λ next. next.gate ≡ gate) }
-        ensures none { IfOk result (λ next. next.marks.items ≡ []) }
+        ensures batch { IfOk result (λ next. next.batch ≡ false) }
+        ensures spilled { IfOk result (λ next. next.spilled ≡ false) }
         ensures buffer { IfOk result (λ next. length next.buffer.items ≡ 8) }
     {
         let mut buffer = Vec::new(alloc);
@@ -63,10 +64,9 @@ impl NextFrame {
         Ok(NextFrame {
             gate,
             buffer,
-            marks: Vec::new(alloc),
             batch: false,
             batch_place: 0,
-            last_place: 0,
+            spilled: false,
         })
     }
 
@@ -93,28 +93,30 @@ impl NextFrame {
 
     // How many bytes writing them writes.
     pub(crate) fn to_write(&self) -> usize
-        ensures { result ≡ frame_size self.now.marks.items self.now.buffer.items }
+        ensures { result ≡ frame_size self.now.buffer.items }
     {
-        if self.marks.is_empty() {
+        if self.buffer.len() <= 8 {
             return 0;
         }
         self.buffer.len() - 8 + 10
     }
 
-    // How many bytes writing them will write, with one record more.
+    // How many bytes writing them will write, with one record more, and then the frame that closes a batch.
     pub(crate) fn to_write_with(&self, len: usize) -> usize
-        requires { IsFull self.now.gate self.now.buffer.items len → ⊥ }
-        ensures { result ≡ length self.now.buffer.items + 19 + len }
+        requires { IsFull self.now.gate self.now.buffer.items self.now.batch len → ⊥ }
+        ensures { result ≡ length self.now.buffer.items + 19 + len + 35 }
     {
-        self.buffer.len() + 19 + len
+        self.buffer.len() + 19 + len + 35
     }
 
-    // Whether the next gate's place would be above the greatest i64 with one record more.
-    pub(crate) fn is_full(&self, len: usize) -> bool
-        ensures { IsTrue result ↔ IsFull self.now.gate self.now.buffer.items len }
+    // Whether the next gate's place would be above the greatest i64 with one record more, and with the frame behind it that closes the
+    // batch which is open then.
+    pub(crate) fn is_full(&self, batch: bool, len: usize) -> bool
+        ensures { IsTrue result ↔ IsFull self.now.gate self.now.buffer.items batch len }
     {
         let room = MAX_PLACE - self.gate;
-        let taken = self.buffer.len() as u64 + 18;
+        let closing = if batch { CLOSING_FRAME } else { 0 };
+        let taken = self.buffer.len() as u64 + 18 + closing;
         room < taken || room - taken < len as u64
     }
 
@@ -126,29 +128,27 @@ impl NextFrame {
         self.gate + 1 + self.buffer.len() as u64
     }
 
-    // Makes room for a record with a payload of so many bytes, a gate behind it, and two marks.
+    // Makes room for a record with a payload of so many bytes, a gate behind it, and the record that closes a batch.
     pub(crate) fn make_room(&mut self, len: usize) -> Result<(), AllocError>
-        requires { IsFull self.old.gate self.old.buffer.items len → ⊥ }
+        requires { IsFull self.old.gate self.old.buffer.items self.old.batch len → ⊥ }
         ensures gate { self.new.gate ≡ self.old.gate }
         ensures buffer { self.new.buffer.items ≡ self.old.buffer.items }
-        ensures marks { self.new.marks.items ≡ self.old.marks.items }
         ensures batch { self.new.batch ≡ self.old.batch }
         ensures batch_place { self.new.batch_place ≡ self.old.batch_place }
-        ensures last_place { self.new.last_place ≡ self.old.last_place }
+        ensures spilled { self.new.spilled ≡ self.old.spilled }
         ensures room { OnOk result
-            (vec_len self.new.buffer + 18 + len ≤ vec_capacity self.new.buffer) }
-        ensures mark_room { OnOk result (vec_len self.new.marks + 2 ≤ vec_capacity self.new.marks) }
+            (vec_len self.new.buffer + 43 + len ≤ vec_capacity self.new.buffer) }
     {
-        self.buffer.reserve(18 + len)?;
-        reserve(&mut self.marks, 2)
+        self.buffer.reserve(18 + len + CLOSING)
     }
 
     // Adds the record of a page, for which there is room.
     pub(crate) fn push(&mut self, kind: u8, page: PageId, payload: &[u8])
-        requires not_full { IsFull self.old.gate self.old.buffer.items (length payload.now) → ⊥ }
-        requires room { vec_len self.old.buffer + 18 + length payload.now
+        requires own { is_own (record { kind = kind; id = page; payload = payload.now }) ≡ true }
+        requires not_mark { open_behind self.old.batch kind ≡ self.old.batch }
+        requires not_full { IsFull self.old.gate self.old.buffer.items self.old.batch (length payload.now) → ⊥ }
+        requires room { vec_len self.old.buffer + 43 + length payload.now
             ≤ vec_capacity self.old.buffer }
-        requires mark_room { vec_len self.old.marks + 2 ≤ vec_capacity self.old.marks }
         ensures gate { self.new.gate ≡ self.old.gate }
         ensures buffer { self.new.buffer.items ≡ self.old.buffer.items
             ++ record_bytes (record { kind = kind; id = page; payload = payload.now }) }
@@ -156,61 +156,73 @@ impl NextFrame {
             ≡ length self.old.buffer.items + 17 + length payload.now }
         ensures records { records_behind self.new.buffer.items ≡ records_behind
             self.old.buffer.items ++ record { kind = kind; id = page; payload = payload.now } ∷ [] }
-        ensures marks { self.new.marks.items ≡ self.old.marks.items ++ Change ∷ [] }
         ensures batch { self.new.batch ≡ self.old.batch }
+        ensures batch_place { self.new.batch_place ≡ self.old.batch_place }
+        ensures spilled { self.new.spilled ≡ self.old.spilled }
     {
-        self.last_place = self.place();
         push_record(&mut self.buffer, kind, page, payload);
-        self.marks.push_reserved(Mark::Change);
     }
 
-    // Opens a batch by its record, for which there is room: that of a cancelled batch, until it is sealed.
+    // Opens a batch by its record, for which there is room.
     pub(crate) fn pin(&mut self)
-        requires not_full { IsFull self.old.gate self.old.buffer.items 8 → ⊥ }
+        requires not_full { IsFull self.old.gate self.old.buffer.items true 0 → ⊥ }
         requires closed { self.old.batch ≡ false }
-        requires room { vec_len self.old.buffer + 18 + 8 ≤ vec_capacity self.old.buffer }
-        requires mark_room { vec_len self.old.marks + 2 ≤ vec_capacity self.old.marks }
+        requires room { vec_len self.old.buffer + 43 ≤ vec_capacity self.old.buffer }
         ensures gate { self.new.gate ≡ self.old.gate }
-        ensures len { length self.new.buffer.items ≡ length self.old.buffer.items + 25 }
+        ensures len { length self.new.buffer.items ≡ length self.old.buffer.items + 17 }
         ensures records { records_behind self.new.buffer.items
-            ≡ records_behind self.old.buffer.items ++ begun_record ∷ [] }
-        ensures marks { self.new.marks.items ≡ self.old.marks.items ++ Pin ∷ [] }
+            ≡ records_behind self.old.buffer.items ++ begin_record ∷ [] }
         ensures batch { self.new.batch ≡ true }
+        ensures batch_place { self.new.batch_place ≡ self.old.gate + 1 + length self.old.buffer.items }
+        ensures spilled { self.new.spilled ≡ self.old.spilled }
     {
         self.batch_place = self.place();
-        self.last_place = self.batch_place;
-        push_record(&mut self.buffer, 1, u64::MAX - 666, &[0; 8]);
-        self.marks.push_reserved(Mark::Pin);
+        push_record(&mut self.buffer, BEGIN, MARK_ID, &[]);
         self.batch = true;
     }
 
-    // Seals the batch: its record gets the place of the last record.
-    pub(crate) fn seal(&mut self)
+    // Closes the batch by a record of that kind, for which there is room.
+    fn end(&mut self, kind: u8)
         requires opened { self.old.batch ≡ true }
+        requires kind { (kind ≡ 13) ⊎ (kind ≡ 1) }
         ensures gate { self.new.gate ≡ self.old.gate }
-        ensures records { records_behind self.new.buffer.items ≡ sealed_in (self.old.gate + 9)
-            self.old.batch_place self.old.last_place (records_behind self.old.buffer.items) }
-        ensures marks { self.new.marks.items ≡ self.old.marks.items ++ Seal ∷ [] }
-        ensures len { length self.new.buffer.items ≡ length self.old.buffer.items }
-        ensures last { self.old.last_place < 2 ^ 64 }
+        ensures len { length self.new.buffer.items ≡ length self.old.buffer.items + 25 }
+        ensures records { records_behind self.new.buffer.items ≡ records_behind
+            self.old.buffer.items ++ closing_record kind self.old.batch_place ∷ [] }
         ensures batch { self.new.batch ≡ false }
+        ensures small { self.old.batch_place < 2 ^ 64 }
+        ensures spilled { self.new.spilled ≡ self.old.spilled }
     {
-        let at = (self.batch_place - self.gate - 1) as usize;
-        mark_in(&mut self.buffer, at, self.last_place);
-        self.marks.push_reserved(Mark::Seal);
+        push_record(&mut self.buffer, kind, MARK_ID, &bytes_of(self.batch_place));
         self.batch = false;
     }
 
-    // Cancels the batch: its record stays that of a cancelled one.
+    // Seals the batch.
+    pub(crate) fn seal(&mut self)
+        requires opened { self.old.batch ≡ true }
+        ensures gate { self.new.gate ≡ self.old.gate }
+        ensures len { length self.new.buffer.items ≡ length self.old.buffer.items + 25 }
+        ensures records { records_behind self.new.buffer.items ≡ records_behind
+            self.old.buffer.items ++ closing_record 13 self.old.batch_place ∷ [] }
+        ensures batch { self.new.batch ≡ false }
+        ensures small { self.old.batch_place < 2 ^ 64 }
+        ensures spilled { self.new.spilled ≡ self.old.spilled }
+    {
+        self.end(END);
+    }
+
+    // Cancels the batch.
     pub(crate) fn cancel(&mut self)
         requires opened { self.old.batch ≡ true }
         ensures gate { self.new.gate ≡ self.old.gate }
-        ensures buffer { self.new.buffer.items ≡ self.old.buffer.items }
-        ensures marks { self.new.marks.items ≡ self.old.marks.items ++ Cancel ∷ [] }
+        ensures len { length self.new.buffer.items ≡ length self.old.buffer.items + 25 }
+        ensures records { records_behind self.new.buffer.items ≡ records_behind
+            self.old.buffer.items ++ closing_record 1 self.old.batch_place ∷ [] }
         ensures batch { self.new.batch ≡ false }
+        ensures small { self.old.batch_place < 2 ^ 64 }
+        ensures spilled { self.new.spilled ≡ self.old.spilled }
     {
-        self.marks.push_reserved(Mark::Cancel);
-        self.batch = false;
+        self.end(CANCELLED);
     }
 
     // The payload of a record that begins so many bytes from the front of the buffer.
@@ -247,9 +259,10 @@ impl NextFrame {
         ensures gate { OnOk result
             (self.new.gate ≡ self.old.gate + 1 + length self.old.buffer.items) }
         ensures err { OnErr result (self.new.gate ≡ self.old.gate) }
-        ensures none { self.new.marks.items ≡ [] }
         ensures buffer { length self.new.buffer.items ≡ 8 }
-        ensures batch { self.new.batch ≡ false }
+        ensures batch { self.new.batch ≡ self.old.batch }
+        ensures batch_place { self.new.batch_place ≡ self.old.batch_place }
+        ensures spilled { self.new.spilled ≡ self.old.batch }
         ensures written { D.tells → OnOk result (IsWhole self.old.gate
             (frame_in self.old.buffer.items) (D.seen disk.old) (D.seen disk.new)) }
         ensures durable { D.tells → OnOk result (Only (D.seen disk.new) (D.may_leave disk.new)) }
@@ -263,8 +276,7 @@ impl NextFrame {
         close(&mut self.buffer);
         let wrote = write_frame(disk, self.gate, &self.buffer);
         empty(&mut self.buffer);
-        self.marks.clear();
-        self.batch = false;
+        self.spilled = self.batch;
         if wrote.is_ok() {
             self.gate += 1 + len;
         }

@@ -2,6 +2,8 @@
 
 ghost use Rattle.std.specs.Prelude.{◌≡◌, ◌≤◌, ◌<◌, not, length, Some, None, slice_set, slice_index_or, if◌then◌else◌, ◌++◌, ◌∷◌, [], OnOk, OnErr};
 ghost use Rattle.sled_log.specs.Chains.{is_empty, chains_with_new};
+ghost use Rattle.sled_base.specs.Kinds.{log_kind_of};
+ghost use Rattle.sled_disk.specs.Format.{is_changing};
 ghost use Rattle.sled_disk.specs.Reading.{Made, chains_of, effect_of_head, step_head};
 
 use crate::head::Head;
@@ -100,6 +102,16 @@ fn link(pages: &mut Vec<Vec<Head>>, page: PageId, head: Head) -> Result<(), LogE
         return Err(LogError::Corruption);
     }
     Ok(lengthen(chain, head)?)
+}
+
+// Whether a record of this kind is a change of a page.
+pub(crate) fn is_change(kind: MessageKind) -> bool
+    ensures { result ≡ is_changing (log_kind_of kind) }
+{
+    match LogKind::from(kind) {
+        LogKind::Free | LogKind::Replace | LogKind::Link => true,
+        LogKind::Skip | LogKind::Corrupted => false,
+    }
 }
 
 // Takes a record of a page by its head, if it may stand there.

@@ -1,23 +1,28 @@
 //! Reading a file from record to record.
 
-ghost use Rattle.std.specs.Prelude.{◌≡◌, ◌≤◌, ◌<◌, List, ℕ, length};
+ghost use Rattle.std.specs.Prelude.{◌≡◌, ◌≤◌, ◌<◌, List, [], ℕ, length, None};
 ghost use Rattle.std.proofs.Props.{props};
 ghost use Rattle.std.specs.List.{AllByRecursion};
 ghost use Rattle.sled_disk.specs.Opened.{AreHeadsBy};
 ghost use Rattle.sled_disk.specs.Reading.{chains_of};
+ghost use Rattle.sled_disk.specs.TakenBy.{IsWaiting};
 
 use crate::head::Head;
 use crate::targets::Targets;
 use crate::window::Window;
+use sled_base::PageId;
 use std::alloc::Global;
+use std::collections::VecDeque;
 
 mod steps;
+mod waiting;
 
 /// A reader of the file on a disk. It keeps its place and the heads of the records before it, so after a read that failed, or
 /// without memory, it goes on where it was. `DiskLog::open_with` makes the log of the file.
 ///
 /// Of the file it holds a window of 64 KiB at most, however long frames and payloads are; payloads are skipped. Besides it keeps
-/// 8 bytes, or 16 where their vector has grown, for each place that a batch's mark named and that is still to come.
+/// 8 bytes, or 16 where their vector has grown, for each place that a batch's mark named and that is still to come, and some 32 for each
+/// change of a batch that is begun, until the record that closes it.
 #[derive(Drop)]
 pub struct Reader {
     alloc: Global,
@@ -33,6 +38,11 @@ pub struct Reader {
     pages: Vec<Vec<Head>>,
     // the places that the marks of the frame named, and that are still to come
     targets: Targets,
+    // the place of the record that began a batch, and the batch's changes
+    begun: Option<u64>,
+    changes: VecDeque<(PageId, Head)>,
+    ghost none: { begun ≡ None → changes.items ≡ [] },
+    ghost waiting: { AllByRecursion (IsWaiting at) changes.items } by { Prim.hlevel props },
     ghost within: { at ≤ body_end },
     ghost inside: { body_end ≤ end },
     ghost heads: { AllByRecursion (AreHeadsBy at) (chains_of pages.items) } by { Prim.hlevel props },

@@ -1,7 +1,7 @@
 //! A file's bytes as numbers and records.
 
-ghost use Rattle.std.specs.Prelude.{◌≡◌, ℕ, ◌≤◌, ◌&&◌, ◌==◌, true, List, length, take, drop, get_or};
-ghost use Rattle.sled_disk.specs.Format.{number, is_mark};
+ghost use Rattle.std.specs.Prelude.{◌≡◌, ℕ, ◌≤◌, ◌&&◌, ◌||◌, ◌==◌, true, List, length, take, drop, get_or};
+ghost use Rattle.sled_disk.specs.Format.{number, mark_id, is_mark, is_begin, is_closing};
 ghost use Rattle.sled_disk.specs.Reading.{raw_record};
 
 // the bytes of `SLPCLOG1`
@@ -9,6 +9,18 @@ pub(crate) const OPENING: [u8; 8] = [0x53, 0x4c, 0x50, 0x43, 0x4c, 0x4f, 0x47, 0
 
 // the greatest place of a gate
 pub(crate) const MAX_PLACE: u64 = i64::MAX as u64;
+
+// the page id of a record that marks a batch
+pub(crate) const MARK_ID: u64 = u64::MAX - 666;
+
+// Kinds of records that a file alone has, beside that of a cancelled batch: a batch begins, it ends, and it was abandoned.
+pub(crate) const CANCELLED: u8 = 1;
+
+pub(crate) const BEGIN: u8 = 12;
+
+pub(crate) const END: u8 = 13;
+
+pub(crate) const ABANDONED: u8 = 14;
 
 // A record as it stands in a file.
 #[derive(Clone, Copy)]
@@ -48,5 +60,36 @@ pub(crate) fn is_mark(raw: RawHead, len: u64) -> bool
         → result ≡ is_mark (raw_record raw payload) }
     ensures len { result ≡ true → len ≡ 8 }
 {
-    raw.kind == 3 && raw.page == u64::MAX - 666 && len == 8
+    raw.kind == 3 && raw.page == MARK_ID && len == 8
+}
+
+// Whether a record with a payload of that length has the page id and the length of one that begins a batch.
+pub(crate) fn is_begin(raw: RawHead, len: u64) -> bool
+    ensures is { (payload : List ℕ) → length payload ≡ len
+        → result ≡ is_begin (raw_record raw payload) }
+    ensures len { result ≡ true → len ≡ 0 }
+{
+    raw.page == MARK_ID && len == 0
+}
+
+// And that of one that closes a batch.
+pub(crate) fn is_end(raw: RawHead, len: u64) -> bool
+    ensures is { result ≡ (raw.page == mark_id && len == 8) }
+    ensures len { result ≡ true → len ≡ 8 }
+{
+    raw.page == MARK_ID && len == 8
+}
+
+// Whether a record begins a batch, by its kind.
+pub(crate) fn begins(raw: RawHead) -> bool
+    ensures { result ≡ (raw.kind == 12) }
+{
+    raw.kind == BEGIN
+}
+
+// Whether a record of a begun batch closes it, by its kind.
+pub(crate) fn closes(raw: RawHead) -> bool
+    ensures { result ≡ is_closing raw.kind }
+{
+    raw.kind == END || raw.kind == CANCELLED || raw.kind == ABANDONED
 }

@@ -1,16 +1,23 @@
 ghost use Rattle.std.specs.Prelude.{◌≡◌};
 ghost use Rattle.sled_log.specs.Calls.{one_more};
 
+mod acts;
+mod batch_records;
+mod closing;
 mod disks;
 mod empty;
 mod files;
 mod forgetful;
+mod full;
 mod marks;
 mod moves;
 mod naming;
+mod naming_batches;
+mod old_files;
 mod opening;
 mod reading;
 mod room;
+mod spilling;
 mod staged;
 
 use sled_base::PageState;

@@ -40,6 +40,7 @@ mod scripts;
 mod served_law;
 mod sizes;
 mod snapshots;
+mod spilling;
 mod steps;
 mod tokens;
 mod told;

@@ -37,7 +37,7 @@ mod tasks;
 /// (`UnseenFile`) that is the caller's word, and a log is told nothing of it: as of a file of the system, all that it knows is why a call
 /// fails, and the counts. The length is what the disk was told when it was made, and what is written past it.
 ///
-/// `make_room` takes the memory for the next two writes, which is kept for later ones. A write for which no room was made takes its own,
+/// `make_room` takes the memory for the next four writes, which is kept for later ones. A write for which no room was made takes its own,
 /// and is a WriteFault where there is none; nothing of it waits then, and the disk goes on. A sync takes no memory.
 #[derive(Drop)]
 pub struct StagedDisk<F: CallersFile = UnseenFile> {

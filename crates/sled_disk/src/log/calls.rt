@@ -18,10 +18,10 @@ ghost use Rattle.sled_disk.specs.Crash.{BytesLeft};
 ghost use Rattle.sled_disk.specs.Reading.{chains_of, effect_of_head};
 ghost use Rattle.sled_disk.specs.Standing.{events_in};
 ghost use Rattle.sled_disk.specs.OnDisk.{Rests};
-ghost use Rattle.sled_disk.specs.Ready.{LeavesPages, IsBeforeOrAfter};
+ghost use Rattle.sled_disk.specs.Ready.{LeavesPages, IsEither};
 ghost use Rattle.sled_disk.specs.ReadyLaws.{log-keeps, log-only, log-due};
-ghost use Rattle.sled_disk.specs.Names.{moves_in, read_of, most_steps, IsDueOfAll};
-ghost use Rattle.sled_disk.specs.Waiting.{state_of, place_of, said_of, size_of, events_of, events_with, IsDue, IsFullFor};
+ghost use Rattle.sled_disk.specs.Names.{moves_in, read_of, most_steps, IsReadAhead, IsDueOfAll};
+ghost use Rattle.sled_disk.specs.Waiting.{state_of, place_of, said_of, size_of, events_of, events_with, IsDue, IsFullFor, IsFullForBatch};
 
 use super::DiskLog;
 use super::finding::find;
@@ -49,15 +49,15 @@ impl<D: Disk> Log for DiskLog<D> {
 
     ghost is_full = { λ log n. IsFullFor log.next n };
 
-    ghost is_full_for_batch = { λ log. IsFullFor log.next 8 };
+    ghost is_full_for_batch = { λ log. IsFullForBatch log.next };
 
     ghost due = { λ log. due_among (length log.pages.items) log.clean_every (read_of log.names) };
 
-    ghost due_is_held = { λ log pid place told usable is. log-due (D.seen log.disk) log.next.gate log.next.marks.items log.next.buffer.items log.usable log.pages.items (λ i. D.are_bytes log.disk i told) (log.stands told usable) log.next.counted log.clean_every (read_of log.names) pid place is };
+    ghost due_is_held = { λ log pid place told usable is. log-due (D.seen log.disk) log.next.gate log.next.spilled log.next.buffer.items log.usable _ log.pages.items (λ i. D.are_bytes log.disk i told) (log.stands told usable) log.next.own log.clean_every (read_of log.names) pid place is };
 
-    ghost keeps_stable = { λ log told usable. log-keeps (D.seen log.disk) _ _ _ (λ i. D.are_bytes log.disk i told) (log.stands told usable) (D.left_since log.disk (D.moment log.disk)) (D.left_now log.disk (D.seen log.disk) told (D.seen_now log.disk told)) };
+    ghost keeps_stable = { λ log told usable. log-keeps (D.seen log.disk) _ _ _ _ _ (λ i. D.are_bytes log.disk i told) (log.stands told usable) (D.left_since log.disk (D.moment log.disk)) (D.left_now log.disk (D.seen log.disk) told (D.seen_now log.disk told)) };
 
-    ghost only_now = { λ log pages told usable left. log-only (D.seen log.disk) _ _ _ (λ i. D.are_bytes log.disk i told) (log.stands told usable) log.next.marks.items log.next.buffer.items log.usable (D.left_since log.disk (D.moment log.disk)) (λ bytes was. log.durable told usable bytes (D.only_now log.disk bytes told was)) pages left };
+    ghost only_now = { λ log pages told usable left. log-only (D.seen log.disk) _ _ _ _ _ (λ i. D.are_bytes log.disk i told) (log.stands told usable) log.next.spilled log.next.buffer.items log.usable (D.left_since log.disk (D.moment log.disk)) (λ bytes was. log.durable told usable bytes (D.only_now log.disk bytes told was)) pages left };
 
     ghost since_earlier = { λ log t u pages told le left. (left.0, D.since_earlier log.disk t u left.0 told le left.1, left.2) };
 
@@ -76,8 +76,9 @@ impl<D: Disk> Log for DiskLog<D> {
             ⟦<Self as Log>⟧.left_since ⟦<Self as Log>⟧.counts self.old self.new
             pid (message kind payload.now) result }
         ensures any_moment { D.tells
-            → BytesLeft D.moment D.left_since self.old.disk self.new.disk (IsBeforeOrAfter
-            (events_in (D.seen self.old.disk)) (events_with self.old.next kind pid payload.now)) }
+            → BytesLeft D.moment D.left_since self.old.disk self.new.disk (IsEither
+            (events_in (D.seen self.old.disk))
+            (events_with (D.seen self.old.disk) self.old.next kind pid payload.now)) }
         ensures size { IfOk result (λ said. (said.2 ≡ head_size + length payload.now)
             × (said.2 < size_limit)) }
         ensures sized { D.tells → OnOk result
@@ -100,6 +101,8 @@ impl<D: Disk> Log for DiskLog<D> {
         ensures counted { OnOk result (0 < self.old.clean_every
             → self.new.names.appended ≡ self.old.names.appended + 1) }
         ensures kept { IfErr result (λ e. e ≢ WriteFault → self.new.names ≡ self.old.names) }
+        ensures read { D.tells → OnOk result (0 < self.old.clean_every → IsReadAhead
+            self.old.names self.new.names (D.counts self.old.disk) (D.counts self.new.disk)) }
         ensures due { D.tells → OnOk result (IsDueOfAll (⟦<Self as Log>⟧.due self.new)
             (due_among (length self.new.pages.items) self.new.clean_every
             (moves_in (D.seen self.new.disk) self.new.next self.new.names))
@@ -205,7 +208,7 @@ impl<D: Disk> Log for DiskLog<D> {
         ensures number { IfOk result (λ n. n ≡ ⟦<Self as Log>⟧.to_write self.old) }
         ensures only { IfErr result (λ e. e ≡ WriteFault) }
         ensures any_moment { D.tells → BytesLeft D.moment D.left_since self.old.disk self.new.disk
-            (IsBeforeOrAfter (events_in (D.seen self.old.disk)) (events_of self.old.next)) }
+            (IsEither (events_in (D.seen self.old.disk)) (events_of (D.seen self.old.disk) self.old.next)) }
         ensures unnamed { D.tells → OnOk result
             (moves_in (D.seen self.new.disk) self.new.next self.new.names
             ≡ moves_in (D.seen self.old.disk) self.old.next self.old.names) }
@@ -229,17 +232,17 @@ impl<D: Disk> Log for DiskLog<D> {
             × (self.new.clean_every ≡ self.old.clean_every) }
         ensures rests { Rests D.tells D.seen D.may_leave D.moment D.left_since self.old.disk
             self.new.disk }
-        ensures full { IsErrOf result Full ↔ IsFullFor self.old.next 8 }
+        ensures full { IsErrOf result Full ↔ IsFullForBatch self.old.next }
         ensures refusals { IfErr result (λ e. (e ≡ Memory) ⊎ (e ≡ Full)) }
         ensures unnamed { D.tells
             → moves_in (D.seen self.new.disk) self.new.next self.new.names
             ≡ moves_in (D.seen self.old.disk) self.old.next self.old.names }
         ensures names { self.new.names ≡ self.old.names }
     {
-        if self.next.is_full(8) {
+        if self.next.is_full(true, 0) {
             return Err(LogError::Full);
         }
-        self.make_room(8)?;
+        self.make_room(0)?;
         self.next.pin();
         Ok(())
     }

@@ -5,7 +5,7 @@ ghost use Rattle.sled_log.specs.Calls.{HasGrown};
 ghost use Rattle.sled_log.specs.declared.log.LogError.TheVariants.{ReadFault, Corruption};
 ghost use Rattle.sled_disk.specs.Cursor.{IsFront};
 ghost use Rattle.sled_disk.specs.Format.{number};
-ghost use Rattle.sled_disk.specs.Names.{moves_in, most_steps, IsSought};
+ghost use Rattle.sled_disk.specs.Names.{moves_in, most_steps, IsStep, IsFound, IsSought};
 ghost use Rattle.sled_disk.specs.OnDisk.{Rests, ReadFaults};
 ghost use Rattle.sled_disk.specs.Waiting.{place_of};
 
@@ -16,7 +16,7 @@ use crate::reading::{RawHead, head_in, number_at};
 use sled_log::LogError;
 
 // So many frames and records are gone over at most in one call.
-const MOST_STEPS: u64 = 8;
+const MOST_STEPS: u64 = 256;
 
 // Where a frame ends whose gate stands at a place: behind all that is pending, where it is the pending one.
 fn frame_end<D: Disk>(disk: &mut D, next: &NextFrame, gate: u64) -> Result<u64, LogError>
@@ -83,8 +83,8 @@ impl<D: Disk> DiskLog<D> {
             ≡ moves_in (D.seen self.old.disk) self.old.next self.old.names }
         ensures disk_reads { (D.counts self.new.disk).reads ≤ (D.counts self.old.disk).reads + 2 }
         ensures unread { result ≡ true → self.new.names.read ≡ None }
-        ensures further { D.tells → result ≡ true → self.old.names.at + 9 ≤ self.new.names.at }
-        ensures ended { D.tells → result ≡ false → IsSought self.old.names self.new.names
+        ensures further { D.tells → result ≡ true → IsStep self.old.names self.new.names }
+        ensures ended { D.tells → result ≡ false → IsFound self.new.names
             (D.counts self.old.disk) (D.counts self.new.disk)
             (moves_in (D.seen self.old.disk) self.old.next self.old.names) }
     {
@@ -99,13 +99,13 @@ impl<D: Disk> DiskLog<D> {
             };
         }
         if end > self.next.gate() {
-            return false;
+            return self.names.end();
         }
         self.names.enter(end);
         true
     }
 
-    // Reads the message that is to be named next, where one is due and none was read.
+    // Reads the message that is to be named next, where none was read and any is ever due.
     pub(crate) fn read_name(&mut self)
         requires usable { self.old.usable ≡ true }
         ensures rests { Rests D.tells D.seen D.may_leave D.moment D.left_since self.old.disk
@@ -127,7 +127,6 @@ impl<D: Disk> DiskLog<D> {
             ≤ (D.counts self.old.disk).reads + 2 * most_steps }
         ensures none { self.old.clean_every ≡ 0 → self.new.disk ≡ self.old.disk }
         ensures read { D.tells → 0 < self.old.clean_every
-            → self.old.clean_every ≤ self.old.names.appended
             → IsSought self.old.names self.new.names (D.counts self.old.disk)
             (D.counts self.new.disk)
             (moves_in (D.seen self.old.disk) self.old.next self.old.names) }

@@ -13,7 +13,7 @@ ghost use Rattle.sled_base.specs.declared.types.DiskPtr.TheVariants.{Inline};
 ghost use Rattle.sled_disk.specs.Crash.{BytesLeft};
 ghost use Rattle.sled_disk.specs.Reading.{chains_of, effect_of_head};
 ghost use Rattle.sled_disk.specs.Standing.{events_in};
-ghost use Rattle.sled_disk.specs.Ready.{IsBeforeOrAfter};
+ghost use Rattle.sled_disk.specs.Ready.{IsEither};
 ghost use Rattle.sled_disk.specs.Names.{moves_in};
 ghost use Rattle.sled_disk.specs.Waiting.{place_of, said_of, events_with, IsDue, IsFullFor};
 
@@ -45,8 +45,9 @@ impl<D: Disk> DiskLog<D> {
             ⟦<Self as Log>⟧.left_since ⟦<Self as Log>⟧.counts self.old self.new
             pid (message kind payload.now) result }
         ensures any_moment { D.tells
-            → BytesLeft D.moment D.left_since self.old.disk self.new.disk (IsBeforeOrAfter
-            (events_in (D.seen self.old.disk)) (events_with self.old.next kind pid payload.now)) }
+            → BytesLeft D.moment D.left_since self.old.disk self.new.disk (IsEither
+            (events_in (D.seen self.old.disk))
+            (events_with (D.seen self.old.disk) self.old.next kind pid payload.now)) }
         ensures size { IfOk result (λ said. (said.2 ≡ head_size + length payload.now)
             × (said.2 < size_limit)) }
         ensures sized { D.tells → OnOk result
@@ -69,14 +70,14 @@ impl<D: Disk> DiskLog<D> {
         ensures counted { OnOk result (0 < self.old.clean_every
             → self.new.names.appended ≡ self.old.names.appended + 1) }
         ensures kept { IfErr result (λ e. e ≢ WriteFault → self.new.names ≡ self.old.names) }
-        ensures at { self.new.names.at ≡ self.old.names.at }
+        ensures places { self.new.names ≡ record self.old.names { appended = self.new.names.appended } }
         ensures failed_reads { (D.counts self.old.disk).failed_reads
             ≤ (D.counts self.new.disk).failed_reads }
         ensures disk_reads { (D.counts self.new.disk).reads ≡ (D.counts self.old.disk).reads }
     {
         let place = self.add(kind, pid, payload)?;
         let said = said_at(place, payload.len());
-        if self.next.batch_open() || (self.next.len() as u64) < self.segment_size {
+        if (self.next.len() as u64) < self.segment_size {
             return Ok(said);
         }
         self.write_next()?;

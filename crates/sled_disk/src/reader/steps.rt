@@ -8,22 +8,29 @@ ghost use Rattle.sled_log.specs.Calls.{HasCause};
 ghost use Rattle.sled_log.specs.declared.log.LogError.TheVariants.{Memory, ReadFault, WriteFault, Corruption};
 ghost use Rattle.sled_disk.specs.Disk.{Only, LeavesTheSame};
 ghost use Rattle.sled_disk.specs.Format.{Describes};
-ghost use Rattle.sled_disk.specs.GoesOn.{GoesOn};
-ghost use Rattle.sled_disk.specs.OnDisk.{Rests, ReadFaults};
+ghost use Rattle.sled_disk.specs.Abandoned.{room_behind};
+ghost use Rattle.sled_disk.specs.GoesOn.{GoesOn, read_by, waiting_by};
+ghost use Rattle.sled_base.specs.Kinds.{kind_of};
+ghost use Rattle.sled_disk.specs.OnDisk.{Rests, ReadFaults, HasHead, HeadOnDisk};
 ghost use Rattle.sled_disk.specs.Opened.{AllEndBy, AreHeads, AreRead};
-ghost use Rattle.sled_disk.specs.Reading.{chains_of, found_at, Holds};
+ghost use Rattle.sled_disk.specs.Reading.{chains_of, start, found_at, Holds};
 
 use super::Reader;
+use super::waiting::take_all;
 use crate::disk::Disk;
 use crate::head::Head;
-use crate::pages::take_head;
+use crate::next_frame::CLOSING_FRAME;
+use crate::pages::{is_change, take_head};
 use crate::parts::{body_on, gate_on, head_on, number_on};
-use crate::reading::{MAX_PLACE, OPENING, is_mark};
+use crate::reading::{
+    ABANDONED, MAX_PLACE, OPENING, RawHead, begins, closes, is_begin, is_end, is_mark,
+};
 use crate::targets::Targets;
 use crate::window::Window;
 use sled_base::MessageKind;
 use sled_log::LogError;
 use std::alloc::Global;
+use std::collections::VecDeque;
 
 // Names the place that a mark which stands at `at` names. A place before the mark is Corruption.
 fn name(targets: &mut Targets, at: u64, target: u64) -> Result<(), LogError>
@@ -40,6 +47,16 @@ fn name(targets: &mut Targets, at: u64, target: u64) -> Result<(), LogError>
         return Ok(());
     }
     Ok(targets.push(target)?)
+}
+
+// The greatest place of a closed gate at which a file may end: behind it there is room for the frame that closes a batch.
+fn greatest_gate(begun: Option<u64>) -> u64
+    ensures { result + room_behind begun + 1 ≡ 2 ^ 63 }
+{
+    match begun {
+        Some(_) => MAX_PLACE - CLOSING_FRAME,
+        None => MAX_PLACE,
+    }
 }
 
 impl Reader {
@@ -74,6 +91,8 @@ impl Reader {
             opened: 8,
             pages: Vec::new(alloc),
             targets: Targets::new(alloc),
+            begun: None,
+            changes: VecDeque::new(alloc),
         })
     }
 
@@ -85,11 +104,11 @@ impl Reader {
         ensures end { self.new.end ≡ self.old.end }
         ensures kept { self.old.at ≤ self.new.at }
         ensures further { IfOk result (λ opened. opened ≡ true → self.old.at < self.new.at) }
-        ensures small { IfOk result (λ opened. opened ≡ false → self.new.at < 2 ^ 63) }
-        ensures closed { D.tells → IfOk result (λ opened. opened ≡ false → found_at 8 []
-            (drop 8 (D.seen disk.old)) ≡ Some (self.new.at, chains_of self.new.pages.items)) }
+        ensures small { IfOk result (λ opened. opened ≡ false → self.new.at + room_behind self.new.begun < 2 ^ 63) }
+        ensures closed { D.tells → IfOk result (λ opened. opened ≡ false → found_at 8 start
+            (drop 8 (D.seen disk.old)) ≡ Some (self.new.at, read_by self.new)) }
         ensures corrupt { D.tells → IsErrOf result Corruption
-            → found_at 8 [] (drop 8 (D.seen disk.old)) ≡ None }
+            → found_at 8 start (drop 8 (D.seen disk.old)) ≡ None }
         ensures only { IfErr result (λ e. (e ≡ Memory) ⊎ (e ≡ ReadFault) ⊎ (e ≡ Corruption)) }
         ensures rests { Rests D.tells D.seen D.may_leave D.moment D.left_since disk.old disk.new }
         ensures faults { ReadFaults (D.counts disk.old) (D.counts disk.new) result }
@@ -101,7 +120,8 @@ impl Reader {
             return Err(LogError::Corruption);
         }
         if gate_on(&mut self.window, disk, self.at, self.end)? == 0 {
-            if self.at > MAX_PLACE {
+            let greatest = greatest_gate(self.begun);
+            if self.at > greatest {
                 return Err(LogError::Corruption);
             }
             return Ok(false);
@@ -124,7 +144,7 @@ impl Reader {
         ensures kept { self.old.at ≤ self.new.at }
         ensures further { OnOk result (self.old.at < self.new.at) }
         ensures corrupt { D.tells → IsErrOf result Corruption
-            → found_at 8 [] (drop 8 (D.seen disk.old)) ≡ None }
+            → found_at 8 start (drop 8 (D.seen disk.old)) ≡ None }
         ensures only { IfErr result (λ e. (e ≡ Memory) ⊎ (e ≡ ReadFault) ⊎ (e ≡ Corruption)) }
         ensures rests { Rests D.tells D.seen D.may_leave D.moment D.left_since disk.old disk.new }
         ensures faults { ReadFaults (D.counts disk.old) (D.counts disk.new) result }
@@ -136,20 +156,157 @@ impl Reader {
         if !self.targets.reach(self.at) {
             return Err(LogError::Corruption);
         }
+        match self.begun {
+            None => self.take_outside(disk, raw, len),
+            Some(begun) => self.take_inside(disk, begun, raw, len),
+        }
+    }
+
+    // Takes a record outside a begun batch, by its head: the places that name it are met.
+    fn take_outside<D: Disk>(
+        &mut self,
+        disk: &mut D,
+        raw: RawHead,
+        len: u64,
+    ) -> Result<(), LogError>
+        requires goes_on { D.tells → GoesOn (D.seen disk.old) self.old }
+        requires closed { self.old.begun ≡ None }
+        requires head { D.tells
+            → HeadOnDisk (D.seen disk.old) self.old.at self.old.body_end (Some (raw, len)) }
+        requires has { HasHead self.old.at self.old.body_end (Some (raw, len)) }
+        requires ahead { AllByRecursion (λ target. self.old.at < target) self.old.targets }
+        ensures goes_on { D.tells → GoesOn (D.seen disk.old) self.new }
+        ensures end { self.new.end ≡ self.old.end }
+        ensures kept { self.old.at ≤ self.new.at }
+        ensures further { OnOk result (self.old.at < self.new.at) }
+        ensures corrupt { D.tells → IsErrOf result Corruption
+            → found_at 8 start (drop 8 (D.seen disk.old)) ≡ None }
+        ensures only { IfErr result (λ e. (e ≡ Memory) ⊎ (e ≡ ReadFault) ⊎ (e ≡ Corruption)) }
+        ensures rests { Rests D.tells D.seen D.may_leave D.moment D.left_since disk.old disk.new }
+        ensures faults { ReadFaults (D.counts disk.old) (D.counts disk.new) result }
+    {
+        if begins(raw) {
+            if !is_begin(raw, len) {
+                return Err(LogError::Corruption);
+            }
+            self.begun = Some(self.at);
+            self.at += 17;
+            return Ok(());
+        }
         if is_mark(raw, len) {
             let target = number_on(&mut self.window, disk, self.at + 17, self.end)?;
             name(&mut self.targets, self.at, target)?;
             self.at += 25;
             return Ok(());
         }
-        let head = Head {
-            kind: MessageKind::from(raw.kind),
-            place: self.at,
-            len,
-        };
+        let head = self.head(raw, len);
         take_head(self.alloc, &mut self.pages, raw.page, head)?;
         self.at += 17 + len;
         Ok(())
+    }
+
+    // Takes a record of a begun batch, by its head: one that closes it, or a change, which waits for that.
+    fn take_inside<D: Disk>(
+        &mut self,
+        disk: &mut D,
+        begun: u64,
+        raw: RawHead,
+        len: u64,
+    ) -> Result<(), LogError>
+        requires goes_on { D.tells → GoesOn (D.seen disk.old) self.old }
+        requires opened { self.old.begun ≡ Some begun }
+        requires head { D.tells
+            → HeadOnDisk (D.seen disk.old) self.old.at self.old.body_end (Some (raw, len)) }
+        requires has { HasHead self.old.at self.old.body_end (Some (raw, len)) }
+        requires ahead { AllByRecursion (λ target. self.old.at < target) self.old.targets }
+        ensures goes_on { D.tells → GoesOn (D.seen disk.old) self.new }
+        ensures end { self.new.end ≡ self.old.end }
+        ensures kept { self.old.at ≤ self.new.at }
+        ensures further { OnOk result (self.old.at < self.new.at) }
+        ensures corrupt { D.tells → IsErrOf result Corruption
+            → found_at 8 start (drop 8 (D.seen disk.old)) ≡ None }
+        ensures only { IfErr result (λ e. (e ≡ Memory) ⊎ (e ≡ ReadFault) ⊎ (e ≡ Corruption)) }
+        ensures rests { Rests D.tells D.seen D.may_leave D.moment D.left_since disk.old disk.new }
+        ensures faults { ReadFaults (D.counts disk.old) (D.counts disk.new) result }
+    {
+        if closes(raw) {
+            if !is_end(raw, len) {
+                return Err(LogError::Corruption);
+            }
+            let place = number_on(&mut self.window, disk, self.at + 17, self.end)?;
+            if place != begun {
+                return Err(LogError::Corruption);
+            }
+            if raw.kind == ABANDONED {
+                self.drop_batch();
+                return Ok(());
+            }
+            return self.count_batch();
+        }
+        let head = self.head(raw, len);
+        if !is_change(head.kind) {
+            return Err(LogError::Corruption);
+        }
+        self.changes.push_back((raw.page, head))?;
+        self.at += 17 + len;
+        Ok(())
+    }
+
+    // Closes the batch by the record here, which says that it was abandoned: its changes never count.
+    fn drop_batch(&mut self)
+        requires { self.old.at + 25 ≤ self.old.body_end }
+        ensures window { self.new.window ≡ self.old.window }
+        ensures end { self.new.end ≡ self.old.end }
+        ensures body_end { self.new.body_end ≡ self.old.body_end }
+        ensures targets { self.new.targets ≡ self.old.targets }
+        ensures at { self.new.at ≡ self.old.at + 25 }
+        ensures closed { self.new.begun ≡ None }
+        ensures pages { self.new.pages ≡ self.old.pages }
+    {
+        self.changes.clear();
+        self.begun = None;
+        self.at += 25;
+    }
+
+    // Closes the batch by the record here: its changes count. Without memory for them the next call goes on with those that are left.
+    fn count_batch(&mut self) -> Result<(), LogError>
+        requires room { self.old.at + 25 ≤ self.old.body_end }
+        requires opened { self.old.begun ≡ None → ⊥ }
+        ensures window { self.new.window ≡ self.old.window }
+        ensures end { self.new.end ≡ self.old.end }
+        ensures body_end { self.new.body_end ≡ self.old.body_end }
+        ensures targets { self.new.targets ≡ self.old.targets }
+        ensures closed { OnOk result ((self.new.at ≡ self.old.at + 25) × (self.new.begun ≡ None)) }
+        ensures counted { OnOk result
+            (waiting_by self.old ≡ Some (chains_of self.new.pages.items)) }
+        ensures opened { OnErr result ((self.new.at ≡ self.old.at)
+            × (self.new.begun ≡ self.old.begun)) }
+        ensures left { OnErr result (waiting_by self.new ≡ waiting_by self.old) }
+        ensures corrupt { IsErrOf result Corruption → waiting_by self.old ≡ None }
+        ensures only { IfErr result (λ e. (e ≡ Memory) ⊎ (e ≡ Corruption)) }
+    {
+        take_all(self.alloc, &mut self.pages, &mut self.changes)?;
+        self.begun = None;
+        self.at += 25;
+        Ok(())
+    }
+
+    // What is kept of the record that stands here.
+    fn head(&self, raw: RawHead, len: u64) -> Head
+        ensures { result ≡ record { kind = kind_of raw.kind; place = self.now.at; len = len } }
+    {
+        Head {
+            kind: MessageKind::from(raw.kind),
+            place: self.at,
+            len,
+        }
+    }
+
+    /// The place of the record that began a batch in which the file ends.
+    pub(crate) fn begun(&self) -> Option<u64>
+        ensures { result ≡ self.now.begun }
+    {
+        self.begun
     }
 
     /// Reads on, on the disk that it began with, up to the closed gate where the file's meaning ends, and answers the gate's place.
@@ -160,9 +317,9 @@ impl Reader {
         requires goes_on { D.tells → GoesOn (D.seen disk.old) self.old }
         ensures goes_on { D.tells → GoesOn (D.seen disk.new) self.new }
         ensures kept { self.old.at ≤ self.new.at }
-        ensures small { IfOk result (λ gate. gate < 2 ^ 63) }
+        ensures small { IfOk result (λ gate. gate + room_behind self.new.begun < 2 ^ 63) }
         ensures read { D.tells → IfOk result
-            (λ gate. AreRead (D.seen disk.old) gate (chains_of self.new.pages.items)) }
+            (λ gate. AreRead (D.seen disk.old) gate (read_by self.new)) }
         ensures holds { D.tells
             → IfOk result (λ gate. Holds (D.seen disk.old) gate (chains_of self.new.pages.items)) }
         ensures heads { OnOk result (AllByRecursion AreHeads (chains_of self.new.pages.items)) }

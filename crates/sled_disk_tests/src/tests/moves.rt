@@ -14,7 +14,7 @@ const LEAF: [u8; 8] = [0; 8];
 // A new log, of which a message is due for every so many.
 fn new_log(alloc: Global, clean_every: u64) -> Result<DiskLog<KeepingDisk>, LogError>
     ensures usable { IfOk result (λ log. log.usable ≡ true) }
-    ensures closed { IfOk result (λ log. pending_of log.next ≡ []) }
+    ensures closed { IfOk result (λ log. pending_of [] log.next ≡ []) }
 {
     let mut disk = KeepingDisk::new(alloc)?;
     DiskLog::create(&mut disk)?;
@@ -104,8 +104,8 @@ fn named_again(alloc: Global) -> Result<[Name; 7], LogError> {
     Ok([first, none, read, again, second, third, fourth])
 }
 
-// The first frame has 8 bytes before its gate, a leaf at 17, a mark at 42 and a leaf at 67; its gate is at 92. The second has a
-// mark at 101 and a leaf at 126, and the third begins at 160.
+// The first frame has 8 bytes before its gate and a leaf at 17; a batch begins at 42, with a leaf at 59, and ends at 84; the next gate
+// is at 109. In the second frame a batch begins at 118, with a leaf at 135, and is cancelled at 160; the third begins at 194.
 #[test]
 fn a_file_begins_at_its_first_message_again(rt: HostRuntime) {
     let found = named_again(rt.alloc());
@@ -114,9 +114,9 @@ fn a_file_begins_at_its_first_message_again(rt: HostRuntime) {
         None,
         Some((0, 17)),
         None,
-        Some((1, 67)),
-        Some((0, 126)),
-        Some((2, 160)),
+        Some((1, 59)),
+        Some((0, 135)),
+        Some((2, 194)),
     ];
     assert!(rt; found == Ok(names));
 }

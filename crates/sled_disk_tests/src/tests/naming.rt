@@ -170,17 +170,18 @@ fn unnamed_behind(alloc: Global, n: u64) -> Option<(usize, u64)> {
     Some((10usize.saturating_sub(count), log.failed_reads()))
 }
 
-// The file is opened by three reads. A message is read by two, or by three where its frame is another one, and by two more where a
-// batch begins before it: ten are by 32. An append that lacks one of these names nothing, and the next one goes on.
+// The file is opened by three reads. A message is read by two, and by three where its frame is another one. That of a batch takes ten, for
+// the record that closes the batch is looked for first, in the next frame; and the one behind that record five: ten are by 45. An append
+// that lacks one of these names nothing, and the next one goes on.
 #[test]
 fn a_name_waits_for_a_read(rt: HostRuntime) {
     for n in 1..=3 {
         assert_eq!(rt; unnamed_behind(rt.alloc(), n), None, "{n}");
     }
-    for n in 4..=35 {
+    for n in 4..=48 {
         assert_eq!(rt; unnamed_behind(rt.alloc(), n), Some((1, 1)), "{n}");
     }
-    assert_eq!(rt; unnamed_behind(rt.alloc(), 36), Some((0, 0)));
+    assert_eq!(rt; unnamed_behind(rt.alloc(), 49), Some((0, 0)));
 }
 
 // Behind so many marks, how many appends it takes until a message is named, 100 at most, and how often the first of them reads.
@@ -203,14 +204,15 @@ fn named_behind_marks(alloc: Global, count: u32) -> Option<(u64, u64)> {
     Some((100, first))
 }
 
-// A record that marks a batch is gone over by two reads, and eight in one call. Behind the last one the frame ends.
+// A record that marks a batch is gone over by two reads, and 256 in one call. Behind the last one the frame ends.
 const MARKS: &[(u32, u64, u64)] = &[
     (1, 1, 3),
-    (6, 1, 13),
-    (7, 2, 15),
-    (8, 2, 16),
-    (20, 3, 16),
-    (400_000, 100, 16),
+    (254, 1, 509),
+    (255, 2, 511),
+    (256, 2, 512),
+    (600, 3, 512),
+    (10_000, 40, 512),
+    (30_000, 100, 512),
 ];
 
 #[test]

@@ -31,11 +31,11 @@ pub(super) fn outcome_of(alloc: Global, bytes: &[u8]) -> Outcome {
 
 const OPENING: &[u8] = b"SLPCLOG1";
 
-const BATCH: u64 = u64::MAX - 666;
+pub(super) const BATCH: u64 = u64::MAX - 666;
 
 /// A part of a file.
 #[derive(Clone, Copy)]
-enum Part {
+pub(super) enum Part {
     Bytes(&'static [u8]),
     // an open gate, and the length of a body
     Body(u64),
@@ -51,7 +51,7 @@ enum Part {
 use Part::{Body, Bytes, Frame, Head, Place};
 
 // A file of these parts behind its opening.
-type File = (&'static [Part], Outcome);
+pub(super) type File = (&'static [Part], Outcome);
 
 // Files with no closed gate behind their parts.
 const ENDS: &[File] = &[
@@ -162,7 +162,7 @@ const FILES: &[File] = &[
     ),
 ];
 
-fn put_part(file: &mut Vec<u8>, part: &Part) -> bool {
+pub(super) fn put_part(file: &mut Vec<u8>, part: &Part) -> bool {
     match *part {
         Bytes(bytes) => file.extend_from_slice(bytes).is_ok(),
         Body(len) => put_body(file, len),
@@ -172,7 +172,7 @@ fn put_part(file: &mut Vec<u8>, part: &Part) -> bool {
     }
 }
 
-fn file_of(alloc: Global, parts: &[Part], end: &[u8]) -> Option<Vec<u8>> {
+pub(super) fn file_of(alloc: Global, parts: &[Part], end: &[u8]) -> Option<Vec<u8>> {
     let mut file = OPENING.to_vec(alloc).ok()?;
     for part in parts {
         if !put_part(&mut file, part) {
@@ -184,7 +184,7 @@ fn file_of(alloc: Global, parts: &[Part], end: &[u8]) -> Option<Vec<u8>> {
 }
 
 // Whether a file with this end behind its parts is opened so.
-fn is_so(alloc: Global, file: &File, end: &[u8]) -> bool {
+pub(super) fn is_so(alloc: Global, file: &File, end: &[u8]) -> bool {
     match file_of(alloc, file.0, end) {
         Some(bytes) => outcome_of(alloc, &bytes) == file.1,
         None => false,

@@ -8,7 +8,7 @@ use super::*;
 
 // A disk with these bytes and zeros behind them, which tells nothing. Every second read of bytes fails where it is late.
 #[derive(Drop)]
-struct Sparse {
+pub(super) struct Sparse {
     bytes: Vec<u8>,
     len: u64,
     late: bool,
@@ -19,7 +19,7 @@ struct Sparse {
     read: usize,
 }
 
-fn with_zeros_behind(bytes: Vec<u8>, len: u64, late: bool) -> Sparse {
+pub(super) fn with_zeros_behind(bytes: Vec<u8>, len: u64, late: bool) -> Sparse {
     Sparse {
         bytes,
         len,

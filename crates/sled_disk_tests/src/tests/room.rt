@@ -9,9 +9,10 @@ use sled_base::MessageKind;
 #[derive(Drop)]
 pub(super) struct KeepingDisk {
     inner: MemDisk,
-    // the most that it has memory for, and what it has made room for and was not written yet
+    // the most that it has memory for, and what it has made room for and was not written yet, by how many writes
     most: usize,
     room: usize,
+    writes: u8,
 }
 
 impl KeepingDisk {
@@ -21,6 +22,7 @@ impl KeepingDisk {
             inner: MemDisk::new(alloc, 4096)?,
             most: 4096,
             room: 0,
+            writes: 0,
         })
     }
 
@@ -33,6 +35,7 @@ impl KeepingDisk {
             inner,
             most: 65_536,
             room: 0,
+            writes: 0,
         })
     }
 
@@ -83,16 +86,18 @@ impl Disk for KeepingDisk {
             return Err(LogError::Memory);
         }
         self.room = len;
+        self.writes = 4;
         Ok(())
     }
 
     // A write for which no room was made is a fault.
     fn write_at(&mut self, at: u64, bytes: &[u8]) -> Result<(), LogError> {
-        if bytes.len() > self.room {
+        if bytes.len() > self.room || self.writes == 0 {
             self.inner.fail_write(1);
         }
         self.inner.write_at(at, bytes)?;
         self.room = self.room.saturating_sub(bytes.len());
+        self.writes = self.writes.saturating_sub(1);
         Ok(())
     }
 
@@ -117,15 +122,17 @@ impl Disk for KeepingDisk {
     }
 }
 
-// A new log over a disk with memory for so many bytes at a time: a frame of two pages, and one of a batch.
-fn kept(alloc: Global, most: usize) -> Result<(), LogError> {
+// A new log over a disk with memory for so many bytes at a time: a frame of two pages, and one of a batch that is sealed, and one of a
+// batch that is cancelled. Each append writes a frame of its own where the segments have no bytes.
+fn kept(alloc: Global, segment_size: u64, most: usize) -> Result<(), LogError> {
     let mut disk = KeepingDisk {
         inner: MemDisk::new(alloc, 4096)?,
         most,
         room: 0,
+        writes: 0,
     };
     DiskLog::create(&mut disk)?;
-    let mut log = DiskLog::open(alloc, disk, 4096, 0).map_err(|(error, _)| error)?;
+    let mut log = DiskLog::open(alloc, disk, segment_size, 0).map_err(|(error, _)| error)?;
     log.append(MessageKind::InlineMeta, 0, &[])?;
     log.append(MessageKind::Counter, 1, &[0])?;
     log.make_stable()?;
@@ -133,15 +140,26 @@ fn kept(alloc: Global, most: usize) -> Result<(), LogError> {
     log.append(MessageKind::Counter, 1, &[10])?;
     log.seal()?;
     log.make_stable()?;
+    log.pin()?;
+    log.append(MessageKind::Counter, 1, &[20])?;
+    log.cancel()?;
+    log.make_stable()?;
     Ok(())
 }
 
-// The bytes of an empty file are 9, those of the first frame 45, and those of the second 53. Whatever there is no room for is
-// refused before it is written: none of these ends with a write fault.
+// The bytes of an empty file are 9. An append makes room for its frame and for one that closes a batch: that in the batch, whose record has
+// 18 bytes, asks for 80, and so does the second where it is in a frame with the first. Whatever there is no room for is refused before it
+// is written: none of these ends with a write fault.
 #[test]
 fn room_is_made_for_a_whole_frame(rt: HostRuntime) {
-    for most in [0, 8, 9, 44, 45, 52] {
-        assert!(rt; kept(rt.alloc(), most) == Err(LogError::Memory), "{most}");
+    for segment_size in [0, 4096] {
+        for most in [0, 8, 9, 61, 62, 79] {
+            let refused = kept(rt.alloc(), segment_size, most);
+            assert!(rt; refused == Err(LogError::Memory), "{segment_size} {most}");
+        }
+        assert!(rt;
+            kept(rt.alloc(), segment_size, 80) == Ok(()),
+            "{segment_size}"
+        );
     }
-    assert!(rt; kept(rt.alloc(), 53) == Ok(()));
 }

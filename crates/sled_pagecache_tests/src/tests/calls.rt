@@ -207,6 +207,7 @@ fn is_seen(stamp: u64, node: &Node, sight: &Sight) -> bool {
     match *sight {
         Sight::Empty(at) => stamp == at && node.len() == 0,
         Sight::Pair(at, key, value) => stamp == at && is_pair(node, key, value),
+        Sight::Pairs(at, pairs) => stamp == at && are_pairs(node, pairs),
         Sight::Holds(at, pairs) => stamp == at && node.len() == pairs,
         Sight::Letters(at, letters) => stamp == at && is_spelled(node, letters),
         Sight::Between(lo, hi) => {
@@ -215,6 +216,19 @@ fn is_seen(stamp: u64, node: &Node, sight: &Sight) -> bool {
         Sight::Leads(at, leaf) => stamp == at && is_index_over(node, leaf),
         _ => false,
     }
+}
+
+fn are_pairs(node: &Node, pairs: &[(&[u8], &[u8])]) -> bool {
+    if node.len() != pairs.len() {
+        return false;
+    }
+    for (number, (key, value)) in pairs.iter().enumerate() {
+        let (stored, item) = node.pair(number);
+        if stored != *key || item != Item::Value(value) {
+            return false;
+        }
+    }
+    true
 }
 
 fn is_spelled(node: &Node, letters: &[u8]) -> bool {

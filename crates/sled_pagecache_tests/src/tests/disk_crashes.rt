@@ -21,6 +21,8 @@ const FLUSH: Part = Plain(&[Flushes]);
 
 const NO_PAGES: &[Step] = &[Recovered(true), Gets(2, Absent), Gets(3, Absent)];
 
+const LEAF: &[Step] = &[Recovered(true), Gets(2, Empty(0)), Gets(3, Absent)];
+
 const NOTHING: &[Step] = &[Recovered(false), Gets(2, Absent), Gets(3, Absent)];
 
 const SCRIPTS: &[Crashing] = &[
@@ -66,21 +68,16 @@ const SCRIPTS: &[Crashing] = &[
         ],
     ),
     (
-        "nothing of a batch is written while it is open",
+        "what is written of a batch that is open counts for nothing",
         0,
         &[
             Plain(&[Adds(2, 1)]),
             Cancelled(&[Links(2, 1, PAIR, At(2)), Adds(3, 1)]),
         ],
-        &[
-            NOTHING,
-            NOTHING,
-            NO_PAGES,
-            &[Recovered(true), Gets(2, Empty(0)), Gets(3, Absent)],
-        ],
+        &[NOTHING, NOTHING, NO_PAGES, LEAF, LEAF, LEAF],
     ),
     (
-        "a batch is written with what comes behind it",
+        "a batch counts once the record is written that ends it",
         64,
         &[
             Sealed(&[Adds(2, 1), Links(2, 1, PAIR, At(2)), Adds(3, 1)]),
@@ -88,6 +85,7 @@ const SCRIPTS: &[Crashing] = &[
         ],
         &[
             NOTHING,
+            NO_PAGES,
             NO_PAGES,
             &[
                 Recovered(true),

@@ -3,16 +3,17 @@
 use super::calls::flushes;
 use super::disks::Part::{Again, Marks, Plain, Sealed};
 use super::disks::{Disked, Part, behind, new_disk, opened_on, written};
+use super::hostile::disk_with;
 use super::steps::Change::Set;
 use super::steps::Outcome::At;
-use super::steps::PAIR;
-use super::steps::Sight::Empty;
-use super::steps::Step::{Adds, AddsFrom, Gets, Links, Takes, Writes};
+use super::steps::Sight::{Empty, Pairs};
+use super::steps::Step::{Adds, AddsFrom, Gets, Links, Recovered, Takes, Writes};
+use super::steps::{PAIR, Step, shown};
 use super::*;
 
 // The file behind a first start, a leaf with a pair, and a batch of one link, each flushed. The bytes of each field on a line.
 #[rattlefmt::skip]
-const FILE: [u8; 165] = [
+const FILE: [u8; 182] = [
     // the opening bytes
     0x53, 0x4c, 0x50, 0x43, 0x4c, 0x4f, 0x47, 0x31,
     // an open gate, and a frame of 35 bytes: no named roots, at 17, and the counter 0, at 34
@@ -25,7 +26,29 @@ const FILE: [u8; 165] = [
     47, 0, 0, 0, 0, 0, 0, 0,
     8, 2, 0, 0, 0, 0, 0, 0, 0, 8, 0, 0, 0, 0, 0, 0, 0, 0, 0, 0, 0, 0, 0, 0, 0,
     10, 2, 0, 0, 0, 0, 0, 0, 0, 5, 0, 0, 0, 0, 0, 0, 0, 0, 1, 0x62, 1, 0x76,
-    // an open gate, at 108, and a frame of 47 bytes: the mark of a batch, whose last record is at 142, and its link
+    // an open gate, at 108, and a frame of 64 bytes: a batch begins at 117, its link, and it ends
+    1,
+    64, 0, 0, 0, 0, 0, 0, 0,
+    12, 0x65, 0xfd, 0xff, 0xff, 0xff, 0xff, 0xff, 0xff, 0, 0, 0, 0, 0, 0, 0, 0,
+    10, 2, 0, 0, 0, 0, 0, 0, 0, 5, 0, 0, 0, 0, 0, 0, 0, 0, 1, 0x63, 1, 0x77,
+    13, 0x65, 0xfd, 0xff, 0xff, 0xff, 0xff, 0xff, 0xff, 8, 0, 0, 0, 0, 0, 0, 0, 117, 0, 0, 0, 0, 0, 0, 0,
+    // the closed gate
+    0,
+];
+
+// The same as it was written before a batch could go over several frames: the mark of a batch, at 117, names its last record, at 142.
+#[rattlefmt::skip]
+pub(super) const OLD_FILE: [u8; 165] = [
+    0x53, 0x4c, 0x50, 0x43, 0x4c, 0x4f, 0x47, 0x31,
+    1,
+    35, 0, 0, 0, 0, 0, 0, 0,
+    6, 0, 0, 0, 0, 0, 0, 0, 0, 0, 0, 0, 0, 0, 0, 0, 0,
+    5, 1, 0, 0, 0, 0, 0, 0, 0, 1, 0, 0, 0, 0, 0, 0, 0, 0,
+    1,
+    47, 0, 0, 0, 0, 0, 0, 0,
+    8, 2, 0, 0, 0, 0, 0, 0, 0, 8, 0, 0, 0, 0, 0, 0, 0, 0, 0, 0, 0, 0, 0, 0, 0,
+    10, 2, 0, 0, 0, 0, 0, 0, 0, 5, 0, 0, 0, 0, 0, 0, 0, 0, 1, 0x62, 1, 0x76,
+    // an open gate, at 108, and a frame of 47 bytes: the mark, and the link
     1,
     47, 0, 0, 0, 0, 0, 0, 0,
     3, 0x65, 0xfd, 0xff, 0xff, 0xff, 0xff, 0xff, 0xff, 8, 0, 0, 0, 0, 0, 0, 0, 142, 0, 0, 0, 0, 0, 0, 0,
@@ -55,8 +78,8 @@ const FILES: &[(&[Part], usize)] = &[
     (&[Plain(&[Takes(53), Writes(0)])], 52),
     (&[LEAF], 108),
     (
-        &[LEAF, BATCH, Plain(&[Takes(109), Writes(57), Takes(165)])],
-        164,
+        &[LEAF, BATCH, Plain(&[Takes(109), Writes(74), Takes(182)])],
+        181,
     ),
     (&[LEAF, Again, Plain(&[Writes(0), Takes(109)])], 108),
 ];
@@ -72,13 +95,45 @@ fn a_cache_writes_its_file_byte_for_byte(rt: HostRuntime) {
     }
 }
 
+// What is there in the older file, and what is added to it.
+const OLD: &[Step] = &[
+    Recovered(true),
+    Gets(2, Pairs(0, &[(b"b", b"v"), (b"c", b"w")])),
+    Adds(3, 1),
+    Writes(35),
+    Takes(199),
+];
+
+const OLDER: &[Step] = &[
+    Recovered(true),
+    Gets(2, Pairs(0, &[(b"b", b"v"), (b"c", b"w")])),
+    Gets(3, Empty(0)),
+    Takes(199),
+];
+
+// The disk of the older file, and what is shown of it by one cache after another.
+fn opens_so(alloc: Global, scripts: &[&[Step]]) -> Option<()> {
+    let mut disk = disk_with(alloc, &OLD_FILE)?;
+    for steps in scripts {
+        let mut cache = opened_on(alloc, disk, 4096).ok()?;
+        let is_shown = shown(alloc, &mut cache, steps) == steps.len();
+        disk = log_if(cache, is_shown)?.into_disk();
+    }
+    Some(())
+}
+
+#[test]
+fn a_file_of_the_older_kind_is_opened_and_added_to(rt: HostRuntime) {
+    assert!(rt; opens_so(rt.alloc(), &[OLD, OLDER]).is_some());
+}
+
 // ---- lengths of files
 
 const ADDED: Part = Plain(&[Adds(2, 1)]);
 
 const LINKED: Part = Plain(&[Links(2, 1, PAIR, At(2))]);
 
-// A script with segments of so many bytes. In the last one a batch leaves more than a segment pending, which the next append writes.
+// A script with segments of so many bytes. In the last one the second leaf of a batch fills one, and then the append behind the batch.
 const LENGTHS: &[(u64, &[Part])] = &[
     (
         4096,
@@ -110,13 +165,13 @@ const LENGTHS: &[(u64, &[Part])] = &[
         64,
         &[
             Sealed(&[Adds(2, 1), Adds(3, 1), Adds(4, 1)]),
-            Plain(&[Takes(53), Adds(5, 1), Takes(187), Writes(0)]),
+            Plain(&[Takes(129), Adds(5, 1), Takes(213), Writes(0)]),
         ],
     ),
 ];
 
 #[test]
-fn a_full_segment_is_written_outside_batches(rt: HostRuntime) {
+fn a_full_segment_is_written(rt: HostRuntime) {
     for (segment_size, parts) in LENGTHS {
         assert!(rt;
             written(rt.alloc(), 4096, *segment_size, parts).is_some(),
@@ -142,7 +197,7 @@ const LARGE: &[&[Part]] = &[
     ],
     &[
         Marks(3_000),
-        Plain(&[Adds(2, 1), Writes(75_035), Takes(75_087)]),
+        Plain(&[Adds(2, 1), Writes(126_035), Takes(126_087)]),
         Again,
         Plain(&[Gets(2, Empty(0))]),
     ],

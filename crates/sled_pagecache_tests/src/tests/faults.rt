@@ -1,4 +1,4 @@
-// Every fault, one at a time, over one list of calls: each read, each write and sync, a crash before each of these, and a second crash
+// Every fault, one at a time, over lists of calls: each read, each write and sync, a crash before each of these, and a second crash
 // as the cache is opened again. All pages, stamps, ids and names, and the number of messages, are then as the list has them.
 
 mod stops;
@@ -6,8 +6,8 @@ mod stops;
 use super::calls::{draws, names_and_stamp, opens, outcome_of, root_of};
 use super::disks::{Disked, disk_of, new_disk, opened_every};
 use super::listed::{
-    Call, FIRST_OPENING, NAME, NEW, OPENINGS, Plain, Row, after_all, answer, behind, is_plain,
-    reopened,
+    Call, FIRST_OPENING, List, NAME, NEW, OPENINGS, Plain, Row, SPILLING, after_all, answer,
+    behind, is_plain,
 };
 use super::scripts::{left_by, opened_over};
 use super::steps::Outcome::{Faulty, Id, Unmade, Unread};
@@ -17,9 +17,11 @@ use super::steps::{Outcome, shown};
 use super::*;
 use sled_pagecache::crashes::writes_and_syncs;
 
-/// How the list is made over a disk.
+/// How a list is made over a disk.
 #[derive(Clone, Copy, Debug)]
 struct Way {
+    // whether it is the list with batches of several segments
+    is_spilling: bool,
     segment_size: u64,
     // for how many messages one is due to be moved, or 0
     clean_every: u64,
@@ -33,14 +35,27 @@ struct Way {
     changes: usize,
 }
 
-// The size of a segment, and for how many messages one is due.
-const KINDS: &[(u64, u64)] = &[(0, 0), (64, 0), (4096, 0), (0, 1), (64, 2), (4096, 3)];
+/// Whether the list is that with batches of several segments, the size of a segment, and for how many messages one is due.
+type Kind = (bool, u64, u64);
+
+const KINDS: &[Kind] = &[
+    (false, 0, 0),
+    (false, 64, 0),
+    (false, 4096, 0),
+    (false, 0, 1),
+    (false, 64, 2),
+    (false, 4096, 3),
+    (true, 64, 0),
+    (true, 64, 2),
+];
 
 // What a crash leaves in each byte that isn't synced, or that such bytes are as they were written.
 const FILLS: &[Option<u8>] = &[None, Some(0), Some(255)];
 
-fn over(segment_size: u64, clean_every: u64) -> Way {
+fn over(kind: &Kind) -> Way {
+    let (is_spilling, segment_size, clean_every) = *kind;
     Way {
+        is_spilling,
         segment_size,
         clean_every,
         unread: 0,
@@ -66,7 +81,15 @@ struct Reach {
     is_over: bool,
 }
 
-// How many changes the list makes.
+// The list, and how many changes it makes.
+fn list_of(way: &Way) -> (List, usize) {
+    if way.is_spilling {
+        (SPILLING, 33)
+    } else {
+        (OPENINGS, CHANGES)
+    }
+}
+
 const CHANGES: usize = 23;
 
 const START: Reach = Reach {
@@ -208,7 +231,8 @@ fn is_silent(alloc: Global, cache: &mut Disked) -> bool {
 // The disk of a cache, whose batch ends if one is open.
 fn ended(mut cache: Disked) -> Option<MemDisk> {
     if cache.batch_open() {
-        cache.cancel().ok()?;
+        // where a write error is kept it closes the batch, too
+        let _ = cache.cancel();
     }
     disk_of(cache)
 }
@@ -253,12 +277,15 @@ fn made(alloc: Global, way: &Way) -> Option<(MemDisk, Reach)> {
     disk.fail_read(way.unread);
     disk.fail_write(way.unwritten);
     let mut reach = START;
-    for rows in OPENINGS {
+    let (list, _) = list_of(way);
+    for rows in list {
         disk = opening(alloc, disk, rows, &mut reach, way)?;
         if is_ended(disk.calls(), &reach, way) || disk.write_faults() > 0 {
             return Some((disk, reach));
         }
-        reach.plain = reopened(reach.plain);
+        // what is in a batch that was left open counts for nothing from here on
+        reach.plain = behind(list, reach.begun).0;
+        reach.begun = reach.made;
     }
     Some((disk, reach))
 }
@@ -280,7 +307,7 @@ fn shows_prefix<L: Log>(alloc: Global, cache: &mut PageCache<L>, reach: &Reach, 
         return reach.begun == 0 && shown(alloc, cache, &steps) == 3 && draws(cache) == Id(0);
     }
     for changes in reach.durable..reach.begun.saturating_add(1) {
-        let (plain, is_part) = behind(changes);
+        let (plain, is_part) = behind(list_of(way).0, changes);
         if !is_part && is_still(alloc, cache, &plain, way) {
             let is_refused = may_pass(Unmade, way);
             return gives_above(cache, reach.ids) || is_refused && gives_above(cache, reach.ids);
@@ -312,10 +339,10 @@ fn goes_on(alloc: Global, way: &Way) -> Option<bool> {
 // Without a refused allocation this shows that every call succeeds.
 #[test]
 fn refuse_each_allocation(rt: HostRuntime) {
-    for (segment_size, clean_every) in [(64, 0), (4096, 3)] {
+    for kind in [(false, 64, 0), (false, 4096, 3), (true, 64, 0)] {
         let way = Way {
             is_refused: true,
-            ..over(segment_size, clean_every)
+            ..over(&kind)
         };
         assert_eq!(rt; goes_on(rt.alloc(), &way), Some(false), "{way:?}");
     }
@@ -323,18 +350,18 @@ fn refuse_each_allocation(rt: HostRuntime) {
 
 #[test]
 fn fail_each_read(rt: HostRuntime) {
-    for (segment_size, clean_every) in KINDS {
+    for kind in KINDS {
         let mut is_met = true;
         for unread in 1..100 {
             let way = Way {
                 unread,
-                ..over(*segment_size, *clean_every)
+                ..over(kind)
             };
             let met = goes_on(rt.alloc(), &way);
             assert!(rt; met.is_some_and(|met| is_met || !met), "{way:?}");
             is_met = met == Some(true);
         }
-        assert!(rt; !is_met, "{segment_size} {clean_every}");
+        assert!(rt; !is_met, "{kind:?}");
     }
 }
 
@@ -353,8 +380,8 @@ fn is_kept(alloc: Global, way: &Way, fill: Option<u8>) -> bool {
 // Two calls made the file.
 #[test]
 fn fail_each_write_or_sync(rt: HostRuntime) {
-    for (segment_size, clean_every) in KINDS {
-        let all = over(*segment_size, *clean_every);
+    for kind in KINDS {
+        let all = over(kind);
         let calls = calls_made(rt.alloc(), &all);
         assert!(rt; calls > 12, "{all:?}");
         for n in 1..calls.saturating_sub(1) {

@@ -1,18 +1,16 @@
 // Files that are damaged by rule: each is opened, or refused, and shows its pages, as a plain reader of docs/FORMAT.md says.
 
+mod files;
 mod pages;
 mod payloads;
 mod records;
 
+use self::files::{Counts, FILES, OLD_COUNTS};
 use self::pages::{Page, is_shown, page_of};
 use self::payloads::{are_roots, is_number};
-use self::records::{Record, are_log, behind, messages_of, number_at, pages_in, records_in};
-use super::disks::Part::{Cancelled, Plain, Sealed};
-use super::disks::{Disked, Part, opened_on, written};
-use super::steps::Change::{Cap, Confirm, Del, Intend, Set};
-use super::steps::Outcome::{At, Done, Id};
-use super::steps::PAIR;
-use super::steps::Step::{Adds, AddsBetween, Flushes, Frees, Links, Opens, Swaps};
+use self::records::{Record, behind, counted, messages_of, number_at, pages_in, records_in};
+use super::disk_files::OLD_FILE;
+use super::disks::{Disked, opened_on, written};
 use super::*;
 
 // How many files no log is opened over, and no cache; how many caches show a damaged page, and how many none.
@@ -90,7 +88,7 @@ fn refused_as(error: &Error) -> Option<Ending> {
 }
 
 // A disk with these bytes.
-fn disk_with(alloc: Global, file: &[u8]) -> Option<MemDisk> {
+pub(super) fn disk_with(alloc: Global, file: &[u8]) -> Option<MemDisk> {
     let mut disk = MemDisk::new(alloc, file.len().saturating_add(100)).ok()?;
     disk.write_at(0, file).ok()?;
     disk.sync().ok()?;
@@ -117,9 +115,10 @@ fn log_opened_as(alloc: Global, file: &[u8], records: &[Record]) -> Option<Endin
 
 // The same of a file.
 fn file_opened_as(alloc: Global, file: &[u8]) -> Option<Ending> {
-    match records_in(alloc, file) {
-        Some(records) if are_log(&records, file) => log_opened_as(alloc, file, &records),
-        _ => opened_as(alloc, file, &[]).filter(|ending| *ending == Ending::NoLog),
+    let found = records_in(alloc, file).and_then(|records| counted(alloc, &records, file));
+    match found {
+        Some(records) => log_opened_as(alloc, file, &records),
+        None => opened_as(alloc, file, &[]).filter(|ending| *ending == Ending::NoLog),
     }
 }
 
@@ -210,7 +209,7 @@ fn count_lengths(alloc: Global, file: &[u8]) -> Option<Tally> {
     Some(tally)
 }
 
-// The page, the length and the place of a mark, and the places of all records in its place.
+// The page and the length of a record that marks a batch, and, where it names a place, that place and those of all records there.
 fn count_mark(
     alloc: Global,
     tally: &mut Tally,
@@ -218,9 +217,13 @@ fn count_mark(
     records: &[Record],
     mark: &Record,
 ) -> Option<()> {
-    for at in [behind(mark.place, 1), behind(mark.place, 9), mark.from] {
+    for at in [behind(mark.place, 1), behind(mark.place, 9)] {
         count_numbers(alloc, tally, file, at)?;
     }
+    if mark.from == mark.to {
+        return Some(());
+    }
+    count_numbers(alloc, tally, file, mark.from)?;
     for record in records {
         let place = record.place as u64;
         count_with(alloc, tally, file, mark.from, &place.to_le_bytes())?;
@@ -233,7 +236,7 @@ fn count_marks(alloc: Global, file: &[u8]) -> Option<Tally> {
     let mut tally = Tally::default();
     let records = records_in(alloc, file)?;
     for record in &records {
-        if record.kind == 3 {
+        if matches!(record.kind, 1 | 3 | 12..=14) {
             count_mark(alloc, &mut tally, file, &records, record)?;
         }
     }
@@ -274,47 +277,7 @@ fn count_exchanges(alloc: Global, file: &[u8]) -> Option<Tally> {
 
 // ---- files
 
-const LEAF: &[Part] = &[Plain(&[Adds(2, 1), Links(2, 1, PAIR, At(2)), Flushes])];
-
-// Leaves with bounds and without, an index, links of each kind, a page that is free, roots, and batches that are sealed and cancelled.
-const MANY: &[Part] = &[
-    Plain(&[
-        Adds(2, 1),
-        Adds(3, 1),
-        AddsBetween(4, b"ba", b"bz"),
-        Links(4, 1, PAIR, At(2)),
-        Flushes,
-    ]),
-    Sealed(&[Links(2, 1, PAIR, At(2)), Links(2, 2, Del(b"b"), At(3))]),
-    Plain(&[
-        Frees(3, 1, At(2)),
-        Opens(b"t", Id(5)),
-        Links(5, 1, Intend(3), At(2)),
-        Flushes,
-        Links(5, 2, Confirm, At(3)),
-        Links(3, 3, Set(b"c", b"w"), At(4)),
-    ]),
-    Cancelled(&[Links(3, 4, Cap, At(5))]),
-    Sealed(&[]),
-    Plain(&[
-        Swaps(b"u", None, Some(2), Done),
-        Adds(6, 1),
-        Frees(6, 1, At(2)),
-        Flushes,
-        Links(2, 3, PAIR, At(4)),
-        Flushes,
-        Links(2, 4, Set(b"c", b"w"), At(5)),
-        Flushes,
-    ]),
-];
-
-// Of the bytes of a file, its prefixes, its lengths, its marks and its exchanges: how many files no log is opened over, and no cache, and
-// how many caches show a damaged page, and none.
-type Counts = [[u32; 4]; 5];
-
-fn counts_of(alloc: Global, parts: &[Part]) -> Option<Counts> {
-    let disk = written(alloc, 4096, 4096, parts)?;
-    let file = disk.bytes();
+fn counts_of(alloc: Global, file: &[u8]) -> Option<Counts> {
     Some([
         numbers(count_bytes(alloc, file)?),
         numbers(count_prefixes(alloc, file)?),
@@ -328,32 +291,16 @@ fn numbers(tally: Tally) -> [u32; 4] {
     [tally.no_log, tally.no_cache, tally.damaged, tally.whole]
 }
 
-const FILES: &[(&[Part], Counts)] = &[
-    (
-        LEAF,
-        [
-            [290, 6, 35, 105],
-            [109, 0, 0, 0],
-            [12, 0, 0, 0],
-            [0, 0, 0, 0],
-            [1, 0, 0, 0],
-        ],
-    ),
-    (
-        MANY,
-        [
-            [1432, 23, 211, 698],
-            [591, 0, 0, 0],
-            [36, 0, 0, 0],
-            [72, 0, 0, 12],
-            [14, 0, 0, 1],
-        ],
-    ),
-];
-
 #[test]
 fn damage_is_told_as_the_format_says(rt: HostRuntime) {
-    for (parts, counts) in FILES {
-        assert_eq!(rt; counts_of(rt.alloc(), parts), Some(*counts));
+    let alloc = rt.alloc();
+    for (segment_size, parts, counts) in FILES {
+        let disk = written(alloc, 4096, *segment_size, parts);
+        assert_eq!(rt;
+            disk.and_then(|disk| counts_of(alloc, disk.bytes())),
+            Some(*counts)
+        );
     }
+    let old = counts_of(alloc, &OLD_FILE);
+    assert_eq!(rt; old, Some(OLD_COUNTS));
 }

@@ -1,9 +1,12 @@
-// One list of calls, with what each answers and what each of its changes leaves, as the texts of the calls have it. No cache is asked.
+// Lists of calls, with what each answers and what each of its changes leaves, as the texts of the calls have it. No cache is asked.
+
+mod spilling;
 
 use self::Call::{
-    Adds, Draws, Flushes, Frees, Gets, Links, Moves, Opens, Pins, Replaces, Seals, Swaps,
+    Adds, Cancels, Draws, Flushes, Frees, Gets, Links, Moves, Opens, Pins, Replaces, Seals, Swaps,
 };
 use self::Left::{Counter, First, Root, Second, Third};
+pub(super) use self::spilling::SPILLING;
 use super::calls::{
     adds, attempts, draws, flushes, frees, links_so, opens, outcome_of, replaces_by_pair, size_of,
     swaps,
@@ -36,6 +39,7 @@ pub(super) enum Call {
     Moves,
     Pins,
     Seals,
+    Cancels,
     Flushes,
 }
 
@@ -56,8 +60,11 @@ pub(super) enum Left {
 /// A call, what it answers, and what each of its changes leaves.
 pub(super) type Row = (Call, Outcome, &'static [Left]);
 
-/// The calls of two openings, one after the other over one log, where an interval has ten ids.
-pub(super) const OPENINGS: &[&[Row]] = &[FIRST_OPENING, SECOND_OPENING];
+/// The calls of openings, one after another over one log, where an interval has ten ids. A batch that one leaves open counts for nothing in
+/// the next.
+pub(super) type List = &'static [&'static [Row]];
+
+pub(super) const OPENINGS: List = &[FIRST_OPENING, SECOND_OPENING];
 
 pub(super) const FIRST_OPENING: &[Row] = &[
     (Adds, Made(2, 1), &[First(Empty(1), 1)]),
@@ -141,8 +148,9 @@ fn answer_of_log<L: Log>(cache: &mut PageCache<L>, call: &Call) -> Outcome {
         Moves => done(attempts(cache).err()),
         Pins => done(cache.pin().err().as_ref().map(outcome_of)),
         Seals if cache.batch_open() => done(cache.seal().err().as_ref().map(outcome_of)),
+        Cancels if cache.batch_open() => done(cache.cancel().err().as_ref().map(outcome_of)),
         // where a write error has kept a batch from being opened, no other call takes its place
-        Seals => done(size_of(cache).err()),
+        Seals | Cancels => done(size_of(cache).err()),
         _ => done(flushes(cache).err()),
     }
 }
@@ -253,13 +261,17 @@ pub(super) fn reopened(plain: Plain) -> Plain {
     }
 }
 
-/// What is there in a cache that is opened again behind so many of all changes, and whether they end inside the batch.
-pub(super) fn behind(changes: usize) -> (Plain, bool) {
-    let (mut plain, mut more, mut is_batch, mut is_inside) = (NEW, changes, false, false);
-    for rows in OPENINGS {
+/// What is there in a cache that is opened again behind so many of all changes, and whether they end inside a batch.
+pub(super) fn behind(list: List, changes: usize) -> (Plain, bool) {
+    let (mut plain, mut more, mut is_inside) = (NEW, changes, false);
+    for rows in list {
+        let (mut before, mut is_batch) = (plain, false);
         for (call, _, lefts) in *rows {
-            is_batch = matches!(call, Pins) || is_batch && !matches!(call, Seals);
+            is_batch = matches!(call, Pins) || is_batch && !matches!(call, Seals | Cancels);
             is_inside = is_inside && is_batch;
+            if !is_batch || matches!(call, Pins) {
+                before = plain;
+            }
             for left in *lefts {
                 if more == 0 {
                     return (reopened(plain), is_inside);
@@ -268,6 +280,9 @@ pub(super) fn behind(changes: usize) -> (Plain, bool) {
                 plain = after(plain, left);
                 is_inside = is_batch;
             }
+        }
+        if is_batch {
+            (plain, is_inside) = (before, false);
         }
     }
     (reopened(plain), is_inside)

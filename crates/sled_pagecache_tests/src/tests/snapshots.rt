@@ -284,7 +284,7 @@ const LINKED: &[Said] = &[
 const TWICE: &[Said] = &[
     FILE_ROOTS,
     FILE_COUNTER,
-    Said::Of(&[(Inline(61), 25), (Inline(86), 22), (Inline(142), 22)]),
+    Said::Of(&[(Inline(61), 25), (Inline(86), 22), (Inline(134), 22)]),
 ];
 
 const FREED: &[Said] = &[FILE_ROOTS, FILE_COUNTER, Said::Freed(117)];
@@ -302,7 +302,7 @@ const PARTS: &[&[Part]] = &[
         Plain(LEAF),
         Plain(&[Flushes]),
         Sealed(&[Links(2, 2, PAIR, At(3))]),
-        Plain(&[Says(108, TWICE), Flushes, Says(164, TWICE)]),
+        Plain(&[Says(108, TWICE), Flushes, Says(181, TWICE)]),
     ],
 ];
 

@@ -54,6 +54,8 @@ pub(super) enum Sight {
     Empty(u64),
     // a node of one pair, of this stored key and this value, at this stamp
     Pair(u64, &'static [u8], &'static [u8]),
+    // a leaf of these pairs, at this stamp
+    Pairs(u64, &'static [(&'static [u8], &'static [u8])]),
     // a node of so many pairs, at this stamp
     Holds(u64, usize),
     // a node that gives each of these letters the value of `PAIR`, and has no other key, at this stamp

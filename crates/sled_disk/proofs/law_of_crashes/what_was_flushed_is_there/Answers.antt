@@ -42,5 +42,5 @@ returns-clause-sound c =
     let since = c.requires.since in
     let le : clock_of c.args.log.disk ≤ min (c.args.n - 1) (clock_of new.disk) = omega (arith, later, since) in
     if_err _ _ c.reopen_after_a_crash.result
-    (λ e any is. not-all-left (unplaced_state (state_in old.disk.bytes.items old.next.gate old.next.marks.items old.next.buffer.items old.usable)) (events_of_all c.args.calls.now)
+    (λ e any is. not-all-left (unplaced_state (state_in old.disk.bytes.items old.next.gate old.next.spilled old.next.buffer.items old.usable)) (events_of_all c.args.calls.now)
     (λ pages. stop.each pages (earlier new.disk (clock_of old.disk) (min (c.args.n - 1) (clock_of new.disk)) pages le (any is pages)))) c.reopen_after_a_crash.ensures.sound

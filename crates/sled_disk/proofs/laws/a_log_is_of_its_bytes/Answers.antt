@@ -7,4 +7,4 @@ pub returns : goal.returns
 returns g c = λ told ok none.
     let log = c.args._log.now in
     let next = log.next in
-    of-its-bytes (g.D.Disk.seen log.disk) next.gate (records_behind next.buffer.items) (chains_of log.pages.items) (λ i. g.met.D.Disk.are_bytes log.disk i told) (log.stands told ok) next.marks.items next.buffer.items log.usable ok none
+    of-its-bytes (g.D.Disk.seen log.disk) next.gate next.spilled (records_behind next.buffer.items) _ (chains_of log.pages.items) (λ i. g.met.D.Disk.are_bytes log.disk i told) (log.stands told ok) next.buffer.items log.usable ok none

@@ -71,13 +71,13 @@ impl Tasks {
         }
     }
 
-    // Makes room for so many bytes, in two writes at most.
+    // Makes room for so many bytes, in four writes at most.
     pub(super) fn make_room(&mut self, len: usize) -> Result<(), AllocError>
         ensures same { tasks_in self.new ≡ tasks_in self.old }
         ensures is_synced { self.new.is_synced ≡ self.old.is_synced }
-        ensures room { OnOk result (HasRoom self.new len 2) }
+        ensures room { OnOk result (HasRoom self.new len 4) }
     {
-        self.writes.reserve(2)?;
+        self.writes.reserve(4)?;
         self.bytes.reserve(len)
     }
 

@@ -13,6 +13,8 @@ pub(super) struct Device {
     pub(super) tasks: usize,
     pub(super) syncs: usize,
     pub(super) handed_in: usize,
+    // how often a log wasn't opened for want of memory
+    pub(super) refused: usize,
 }
 
 pub(super) fn device_of(file: Vec<u8>, room: usize, tasks_left: usize) -> Device {
@@ -23,6 +25,7 @@ pub(super) fn device_of(file: Vec<u8>, room: usize, tasks_left: usize) -> Device
         tasks: 0,
         syncs: 0,
         handed_in: 0,
+        refused: 0,
     }
 }
 

@@ -26,8 +26,8 @@ fn stops_again(alloc: Global, n: usize, m: usize, way: &Way, fill: Option<u8>) -
 
 #[test]
 fn stop_at_each_device_call(rt: HostRuntime) {
-    for (segment_size, clean_every) in KINDS {
-        let all = over(*segment_size, *clean_every);
+    for kind in KINDS {
+        let all = over(kind);
         let made = calls_made(rt.alloc(), &all);
         assert!(rt; made > 12, "{all:?}");
         // the file is made once there were two
@@ -43,12 +43,13 @@ fn stop_at_each_device_call(rt: HostRuntime) {
 // Also inside the batch, which is open then, and behind any other call.
 #[test]
 fn stop_behind_each_change(rt: HostRuntime) {
-    for (segment_size, clean_every) in KINDS {
-        for changes in 0..CHANGES + 1 {
+    for kind in KINDS {
+        let (_, all) = list_of(&over(kind));
+        for changes in 0..all.saturating_add(1) {
             for fill in FILLS {
                 let way = Way {
                     changes,
-                    ..over(*segment_size, *clean_every)
+                    ..over(kind)
                 };
                 assert!(rt;
                     stops(rt.alloc(), usize::MAX, &way, *fill),
@@ -59,15 +60,23 @@ fn stop_behind_each_change(rt: HostRuntime) {
     }
 }
 
-// Where the system pages are missing they are made by eight writes and syncs, and else there is a sync alone.
+// Where the system pages are missing they are made by eight writes and syncs. Else there is a sync, and where the file ends inside a batch
+// the four writes and syncs of a frame.
 #[test]
 fn stop_while_reopening(rt: HostRuntime) {
-    for (segment_size, clean_every) in KINDS {
-        let all = over(*segment_size, *clean_every);
+    for kind in KINDS {
+        let all = over(kind);
         let made = calls_made(rt.alloc(), &all);
         assert!(rt; made > 12, "{all:?}");
         for calls in 3..made.saturating_add(2) {
-            let seconds = if calls < 12 { 11 } else { 3 };
+            let spills = all.is_spilling || all.segment_size == 0;
+            let seconds = if calls < 12 {
+                11
+            } else if spills {
+                7
+            } else {
+                3
+            };
             for second in 1..seconds {
                 for fill in FILLS {
                     let way = Way { calls, ..all };
@@ -123,7 +132,7 @@ fn stop_at_each_event(rt: HostRuntime) {
             for kept in 0..2 * CHANGES {
                 let way = Way {
                     changes,
-                    ..over(4096, clean_every)
+                    ..over(&(false, 4096, clean_every))
                 };
                 assert!(rt; keeps(rt.alloc(), kept, &way), "{kept} {way:?}");
             }

@@ -122,15 +122,11 @@ fn names_record(records: &[Record], file: &[u8], mark: &Record) -> bool {
     false
 }
 
-// Whether a record may stand behind those in front of it.
+// Whether a record may stand outside a batch, behind those that count before it.
 fn fits(records: &[Record], file: &[u8], before: &[Record], record: &Record) -> bool {
     match record.kind {
         1 => true,
-        3 => {
-            record.page == MANIFEST
-                && record.to == behind(record.from, 8)
-                && names_record(records, file, record)
-        }
+        3 => is_mark(record, 8) && names_record(records, file, record),
         4 => record.page < pages_in(before),
         5..=9 => record.page <= pages_in(before),
         10 | 11 => has_content(before, record.page),
@@ -138,17 +134,66 @@ fn fits(records: &[Record], file: &[u8], before: &[Record], record: &Record) -> 
     }
 }
 
-// Whether each record of a file may stand where it stands.
-pub(super) fn are_log(records: &[Record], file: &[u8]) -> bool {
-    for (i, record) in records.iter().enumerate() {
-        let Some(before) = records.get(..i) else {
-            return false;
-        };
-        if !fits(records, file, before, record) {
-            return false;
+// Whether a record has the page of those that mark batches, and a payload of so many bytes.
+fn is_mark(record: &Record, len: u64) -> bool {
+    record.page == MANIFEST && record.to == behind(record.from, len)
+}
+
+/// What the records say up to one of them: those that count, the place of the one that began a batch, and the changes of that.
+#[derive(Drop)]
+struct Reading {
+    counted: Vec<Record>,
+    begun: Option<usize>,
+    waiting: Vec<Record>,
+}
+
+// Takes a record outside a batch, if it may stand there.
+fn take_outside(
+    reading: &mut Reading,
+    records: &[Record],
+    file: &[u8],
+    record: &Record,
+) -> Option<()> {
+    if record.kind == 12 {
+        reading.begun = Some(record.place);
+        return is_mark(record, 0).then_some(());
+    }
+    fits(records, file, &reading.counted, record).then_some(())?;
+    reading.counted.push(*record).ok()
+}
+
+// The same inside a batch that begins at this place. A change waits for the record that closes the batch, and is judged where it counts.
+fn take_inside(reading: &mut Reading, file: &[u8], begun: usize, record: &Record) -> Option<()> {
+    if matches!(record.kind, 4..=11) {
+        return reading.waiting.push(*record).ok();
+    }
+    let closes = matches!(record.kind, 1 | 13 | 14) && is_mark(record, 8);
+    (closes && number_at(file, record.from) == Some(begun as u64)).then_some(())?;
+    if record.kind != 14 {
+        for change in &reading.waiting {
+            fits(&[], file, &reading.counted, change).then_some(())?;
+            reading.counted.push(*change).ok()?;
         }
     }
-    true
+    reading.waiting.clear();
+    reading.begun = None;
+    Some(())
+}
+
+// The records of a file that count, if each may stand where it stands.
+pub(super) fn counted(alloc: Global, records: &[Record], file: &[u8]) -> Option<Vec<Record>> {
+    let mut reading = Reading {
+        counted: Vec::new(alloc),
+        begun: None,
+        waiting: Vec::new(alloc),
+    };
+    for record in records {
+        match reading.begun {
+            None => take_outside(&mut reading, records, file, record)?,
+            Some(begun) => take_inside(&mut reading, file, begun, record)?,
+        }
+    }
+    Some(reading.counted)
 }
 
 // The records that make a page: the last that puts a content or frees it, and the links behind that.

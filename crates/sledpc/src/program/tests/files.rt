@@ -79,7 +79,7 @@ const RUNS: &[Runs] = &[
         ("get 3\nsize\n", "none\nsize 109\n"),
         (
             "pin\nset 2 0 63 77\nseal\nflush\nsize",
-            "ok\nok 1\nok\nflushed 57\nsize 165\n",
+            "ok\nok 1\nok\nflushed 74\nsize 182\n",
         ),
         ("get 2", "leaf 0 62=76 63=77\n"),
     ],
@@ -96,7 +96,7 @@ const RUNS: &[Runs] = &[
     &[
         (
             "pin\nalloc 61=62\ncancel\nflush\npin\nalloc 63=64\nset 2 1 65 66\n",
-            "ok\npage 2 1\nok\nflushed 64\nok\npage 3 1\nok 2\n",
+            "ok\npage 2 1\nok\nflushed 81\nok\npage 3 1\nok 2\n",
         ),
         ("get 2\nget 3\n", "leaf 0 61=62\nnone\n"),
     ],
@@ -146,6 +146,37 @@ fn a_file_holds_what_was_flushed(rt: HostRuntime) {
 fn an_empty_file_is_a_new_one(rt: HostRuntime) {
     assert!(rt; fs::write(&rt, "empty", b"".as_slice()).is_ok());
     assert!(rt; runs_so(rt, "empty", RUNS[0]));
+}
+
+// A file as it was written before a batch could go over several frames: the one that has 109 bytes above, and a batch of one link, whose
+// mark stands at 117 and names the link, at 142.
+#[rattlefmt::skip]
+const OLDER: &[u8] = &[
+    0x53, 0x4c, 0x50, 0x43, 0x4c, 0x4f, 0x47, 0x31,
+    1,
+    35, 0, 0, 0, 0, 0, 0, 0,
+    6, 0, 0, 0, 0, 0, 0, 0, 0, 0, 0, 0, 0, 0, 0, 0, 0,
+    5, 1, 0, 0, 0, 0, 0, 0, 0, 1, 0, 0, 0, 0, 0, 0, 0, 0,
+    1,
+    47, 0, 0, 0, 0, 0, 0, 0,
+    8, 2, 0, 0, 0, 0, 0, 0, 0, 8, 0, 0, 0, 0, 0, 0, 0, 0, 0, 0, 0, 0, 0, 0, 0,
+    10, 2, 0, 0, 0, 0, 0, 0, 0, 5, 0, 0, 0, 0, 0, 0, 0, 0, 1, 0x62, 1, 0x76,
+    1,
+    47, 0, 0, 0, 0, 0, 0, 0,
+    3, 0x65, 0xfd, 0xff, 0xff, 0xff, 0xff, 0xff, 0xff, 8, 0, 0, 0, 0, 0, 0, 0, 142, 0, 0, 0, 0, 0, 0, 0,
+    10, 2, 0, 0, 0, 0, 0, 0, 0, 5, 0, 0, 0, 0, 0, 0, 0, 0, 1, 0x63, 1, 0x77,
+    0,
+];
+
+#[test]
+fn a_file_of_the_older_kind_is_opened_and_added_to(rt: HostRuntime) {
+    let path = "older";
+    let script = b"get 2\nalloc\nflush\n";
+    let replies = b"leaf 0 62=76 63=77\npage 3 1\nflushed 35\n";
+    assert!(rt; fs::write(&rt, path, OLDER).is_ok());
+    assert!(rt; answers(rt, path, script, replies));
+    assert!(rt; answers(rt, path, b"get 3\nsize\n", b"leaf 0\nsize 199\n"));
+    assert!(rt; removes(rt, path));
 }
 
 /// Bytes of a value, and how many the file has behind a run that puts it on a page and flushes nothing: at 4,096 bytes that are pending

@@ -1,12 +1,14 @@
 use Rattle.std.proofs.Common.{◌≡◌, ◌∷◌, [], ◌++◌, ℕ, List, drop, refl, ◌∙◌, arith}
 use Rattle.sled_disk.specs.Disk.{overlaid}
-use Rattle.sled_disk.specs.Format.{opening, Describes}
+use Rattle.std.specs.Prelude.{None}
+use Rattle.sled_disk.specs.Format.{opening, frames_turns, Describes}
 use Rattle.sled_disk.proofs.Created.{with_room, with_write, with_sync}
 use Rattle.sled_disk.proofs.Written.{on_ok_map}
 use Rattle.sled_disk.proofs.log.DiskLog.create.Goals as goal
 
 created : (old new : List ℕ) → new ≡ overlaid old 0 (opening ++ 0 ∷ []) → Describes new []
-created old new is = (8, record { frames = []; each = tt; rest = drop 9 old; is = is; place = refl; small = omega arith; good = refl; meaning = refl })
+unfolding frames_turns
+created old new is = (8, record { frames = []; each = tt; rest = drop 9 old; is = is; place = refl; begun = None; small = omega arith; meaning = refl })
 
 pub returns-clause-empty : goal.returns-clause-empty
 returns-clause-empty g c = λ told. on_ok_map c.sync.result (λ same. created (g.D.Disk.seen c.make_room.new.self) (g.D.Disk.seen c.sync.new.self) (same ∙ c.in_ok-write_at.ensures.written told)) (c.sync.ensures.seen told)

@@ -15,6 +15,6 @@ returns-clause-told g c = λ told ok.
     let next = log.next in
     let fits = g.met.D.Disk.are_bytes log.disk in
     let pages = returns-clause-pages g c in (
-      λ yes. none-held seen next.gate next.buffer.items log.pages.items (λ i. fits i told) (log.stands told ok) next.marks.items log.usable next.counted (pages.0 yes),
-      λ none. pages.1 (held-none seen next.gate next.buffer.items log.pages.items (λ i. fits i told) (log.stands told ok) next.marks.items log.usable next.counted none),
+      λ yes. none-held seen next.gate next.spilled next.buffer.items _ log.pages.items (λ i. fits i told) (log.stands told ok) log.usable next.own (pages.0 yes),
+      λ none. pages.1 (held-none seen next.gate next.spilled next.buffer.items _ log.pages.items (λ i. fits i told) (log.stands told ok) log.usable next.own none),
     )

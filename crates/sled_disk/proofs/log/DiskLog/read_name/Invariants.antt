@@ -1,9 +1,9 @@
 use Rattle.std.proofs.Common.{◌≡◌, ◌≤◌, ◌+◌, ◌*◌, None, true}
-use Rattle.sled_disk.specs.Names.{moves_in}
+use Rattle.sled_disk.specs.Names.{moves_in, AreSteps}
 use Rattle.sled_disk.specs.OnDisk.{Rests}
 use Rattle.sled_disk.proofs.log.DiskLog.read_name.Given as goal
 
--- no message was read, and each step went on by nine bytes at least
+-- no message was read, and so many steps were made
 abbrev pub invariant-loop : goal.invariant-loop
 invariant-loop g l =
     let seen = g.D.Disk.seen in
@@ -23,5 +23,5 @@ invariant-loop g l =
       next : l.self.next ≡ old.next;
       appended : l.self.names.appended ≡ old.names.appended;
       moves : g.D.Disk.tells → moves_in (seen old.disk) l.self.next l.self.names ≡ moves_in (seen old.disk) old.next old.names;
-      further : g.D.Disk.tells → old.names.at + 9 * l.counter ≤ l.self.names.at;
+      further : g.D.Disk.tells → AreSteps l.counter old.names l.self.names;
     }

@@ -1,14 +1,16 @@
-use Rattle.std.proofs.Common.{◌≡◌, ◌+◌, ◌≤◌, ◌<◌, ◌^◌, ◌++◌, ℕ, List, inl, inr, ⊎_elim, length, sym, ◌∙◌, ap, subst, arith}
+use Rattle.std.proofs.Common.{◌≡◌, ◌+◌, ◌≤◌, ◌<◌, ◌^◌, ℕ, List, inl, inr, ⊎_elim, length, refl, sym, ◌∙◌, ap, subst, arith}
 use Rattle.std.specs.Prelude.{Err}
 use Rattle.std.proofs.lemmas.Bool.{cases_lt}
-use Rattle.sled_base.specs.Kinds.{kind_of, log_kind_of}
 use Rattle.sled_log.specs.declared.log.LogError.TheVariants.{ReadFault, Corruption}
+use Rattle.sled_disk.specs.declared.names.Names.{Names}
 use Rattle.sled_disk.specs.declared.next_frame.NextFrame.{NextFrame}
+use Rattle.sled_disk.specs.Counting.{IsLooked}
 use Rattle.sled_disk.specs.Cursor.{IsAmong}
-use Rattle.sled_disk.specs.Names.{from_place, all_messages, one_or_none, named_by}
+use Rattle.sled_disk.specs.Names.{moves_in, looks_at, frame_of, behind_record, IsStep}
 use Rattle.sled_disk.specs.Reading.{chains_of}
 use Rattle.sled_disk.specs.Standing.{records_behind}
-use Rattle.sled_disk.proofs.Naming.{IsKept, IsEnd, IsHead, small, durable-end, passed, enough, next-among, next-same, next-further, none-behind, passed-moves, skipped-moves, unread, grown-later}
+use Rattle.sled_disk.specs.Waiting.{batch_of}
+use Rattle.sled_disk.proofs.Naming.{IsKept, IsEnd, IsHead, Steps, small, durable-end, passed, enough, record-steps, gate-steps, end-keeps, none-waits, looked-at, unread, grown-later}
 use Rattle.sled_disk.proofs.log.DiskLog.step.Goals as goal
 
 -- the end of what is pending is a number
@@ -19,20 +21,20 @@ length-bound next = elim (cases_lt 8 (length next.buffer.items)) [
 ]
 
 pub returns-in_default-clause-ended : goal.returns-in_default-clause-ended
-returns-in_default-clause-ended g c = λ told no.
+returns-in_default-clause-ended g c = λ told stopped.
     let log = c.args.self.now in
     let next = log.next in
     let names = log.names in
     let seen = g.D.Disk.seen log.disk in
-    let k : IsKept seen next.gate next.buffer.items names.gate names.at = record { heads = chains_of log.pages.items; fits = λ i. g.met.D.Disk.are_bytes log.disk i told; stands = log.stands told c.requires.usable; are_bytes = next.are_bytes; front = next.front; parsed = next.parsed; stood = log.stood told c.requires.usable } in
-    inr (inr (inl (unread (g.D.Disk.counts log.disk) (g.D.Disk.counts c.frame_end.new.disk) c.frame_end.result c.frame_end.ensures.faults c.frame_end.ensures.only
+    let k : IsKept seen next.gate next.buffer.items (frame_of names) (looks_at names) = record { spilled = next.spilled; batch = batch_of next; heads = chains_of log.pages.items; fits = λ i. g.met.D.Disk.are_bytes log.disk i told; stands = log.stands told c.requires.usable; own = next.own; are_bytes = next.are_bytes; front = next.front; parsed = next.parsed; stood = looked-at seen (records_behind next.buffer.items) names (log.stood told c.requires.usable) (log.looked told c.requires.usable) } in
+    inr (inr (unread (g.D.Disk.counts log.disk) (g.D.Disk.counts c.frame_end.new.disk) c.frame_end.result c.frame_end.ensures.faults c.frame_end.ensures.only
     (λ is.
     let e = rw c.gate.ensures at c.frame_end.ensures.corrupt told is in
-    let ends = durable-end seen next.gate next.buffer.items names.gate names.at k e.0 in
-    let most = small seen next.gate next.buffer.items names.gate names.at k in
+    let ends = durable-end seen next.gate next.buffer.items (frame_of names) (looks_at names) k e.0 in
+    let most = small seen next.gate next.buffer.items (frame_of names) (looks_at names) k in
     let far = e.1 in
     omega (arith, ends, most, far))
-    c.in_default.not-Ok)))
+    c.in_default.not-Ok))
 
 pub invariant_of-self-in-Ok-head_of-clause-stood : goal.invariant_of-self-in-Ok-head_of-clause-stood
 invariant_of-self-in-Ok-head_of-clause-stood g c = λ told usable.
@@ -40,21 +42,43 @@ invariant_of-self-in-Ok-head_of-clause-stood g c = λ told usable.
     let next = log.next in
     let names = log.names in
     let seen = g.D.Disk.seen log.disk in
-    let k : IsKept seen next.gate next.buffer.items names.gate names.at = record { heads = chains_of log.pages.items; fits = λ i. g.met.D.Disk.are_bytes log.disk i told; stands = log.stands told c.requires.usable; are_bytes = next.are_bytes; front = next.front; parsed = next.parsed; stood = log.stood told c.requires.usable } in
-    let is_end : IsEnd seen next.gate next.buffer.items names.gate c.in-Ok.end = subst (λ n. IsEnd seen next.gate next.buffer.items n c.in-Ok.end) c.gate.ensures (c.in-Ok.ensures.durable told, c.in-Ok.ensures.pending) in
-    let before : names.at < c.in-Ok.end = subst (λ n. n < c.in-Ok.end) c.at-at.ensures c.if-at-end.true in
+    let k : IsKept seen next.gate next.buffer.items (frame_of names) (looks_at names) = record { spilled = next.spilled; batch = batch_of next; heads = chains_of log.pages.items; fits = λ i. g.met.D.Disk.are_bytes log.disk i told; stands = log.stands told c.requires.usable; own = next.own; are_bytes = next.are_bytes; front = next.front; parsed = next.parsed; stood = looked-at seen (records_behind next.buffer.items) names (log.stood told c.requires.usable) (log.looked told c.requires.usable) } in
+    let is_end : IsEnd seen next.gate next.buffer.items (frame_of names) c.in-Ok.end = subst (λ n. IsEnd seen next.gate next.buffer.items n c.in-Ok.end) c.gate.ensures (c.in-Ok.ensures.durable told, c.in-Ok.ensures.pending) in
+    let before : looks_at names < c.in-Ok.end = subst (λ n. n < c.in-Ok.end) c.at-at.ensures c.if-at-end.true in
     let first = c.in-Ok.ensures.rests.same told in
     let raw = c.in-Ok-head_of.raw in
     let len = c.in-Ok-head_of.len in
-    let head : IsHead seen next.gate next.buffer.items names.at raw len = subst (λ n. IsHead seen next.gate next.buffer.items n raw len) c.at-at.ensures
+    let head : IsHead seen next.gate next.buffer.items (looks_at names) raw len = subst (λ n. IsHead seen next.gate next.buffer.items n raw len) c.at-at.ensures
     (subst (λ (l : List ℕ). IsHead l next.gate next.buffer.items c.at-at.result raw len) first (c.in-Ok-head_of.ensures.durable told, c.in-Ok-head_of.ensures.pending)) in
-    let p = passed seen next.gate next.buffer.items names.gate names.at k c.in-Ok.end is_end before raw len head in
+    let p = passed seen next.gate next.buffer.items (frame_of names) (looks_at names) k c.in-Ok.end is_end before raw len head in
     let within = p.within in
-    let at : c.pass.new.self.at ≡ names.at + (17 + len) = c.pass.ensures.at (let fits = next.fits in let small = next.small in let room = length-bound next in omega (arith, within, room)) in
+    let new = c.pass.new.self in
+    let places : new ≡ record (behind_record names raw.kind len) { read = new.read } = c.pass.ensures.places (let room = length-bound next in omega (arith, within, room)) in
+    let steps : Steps seen next names new = subst (λ (n : Names). Steps seen next names n) (sym places) (record-steps seen next names k refl (log.stood told c.requires.usable) (log.looked told c.requires.usable) c.requires.unread raw len new.read p c.pass.ensures.read) in
     let same = c.in-Ok-head_of.ensures.rests.same told ∙ first in
-    subst (λ (l : List ℕ). IsAmong l (records_behind next.buffer.items) c.pass.new.self.gate c.pass.new.self.at) (sym same)
-    (subst (λ n. IsAmong seen (records_behind next.buffer.items) n c.pass.new.self.at) (sym c.pass.ensures.gate)
-    (subst (λ n. IsAmong seen (records_behind next.buffer.items) names.gate n) (sym at) p.among))
+    subst (λ (l : List ℕ). IsAmong l (records_behind next.buffer.items) new.gate new.at) (sym same) steps.stood
+
+pub invariant_of-self-in-Ok-head_of-clause-looked : goal.invariant_of-self-in-Ok-head_of-clause-looked
+invariant_of-self-in-Ok-head_of-clause-looked g c = λ told usable.
+    let log = c.args.self.now in
+    let next = log.next in
+    let names = log.names in
+    let seen = g.D.Disk.seen log.disk in
+    let k : IsKept seen next.gate next.buffer.items (frame_of names) (looks_at names) = record { spilled = next.spilled; batch = batch_of next; heads = chains_of log.pages.items; fits = λ i. g.met.D.Disk.are_bytes log.disk i told; stands = log.stands told c.requires.usable; own = next.own; are_bytes = next.are_bytes; front = next.front; parsed = next.parsed; stood = looked-at seen (records_behind next.buffer.items) names (log.stood told c.requires.usable) (log.looked told c.requires.usable) } in
+    let is_end : IsEnd seen next.gate next.buffer.items (frame_of names) c.in-Ok.end = subst (λ n. IsEnd seen next.gate next.buffer.items n c.in-Ok.end) c.gate.ensures (c.in-Ok.ensures.durable told, c.in-Ok.ensures.pending) in
+    let before : looks_at names < c.in-Ok.end = subst (λ n. n < c.in-Ok.end) c.at-at.ensures c.if-at-end.true in
+    let first = c.in-Ok.ensures.rests.same told in
+    let raw = c.in-Ok-head_of.raw in
+    let len = c.in-Ok-head_of.len in
+    let head : IsHead seen next.gate next.buffer.items (looks_at names) raw len = subst (λ n. IsHead seen next.gate next.buffer.items n raw len) c.at-at.ensures
+    (subst (λ (l : List ℕ). IsHead l next.gate next.buffer.items c.at-at.result raw len) first (c.in-Ok-head_of.ensures.durable told, c.in-Ok-head_of.ensures.pending)) in
+    let p = passed seen next.gate next.buffer.items (frame_of names) (looks_at names) k c.in-Ok.end is_end before raw len head in
+    let within = p.within in
+    let new = c.pass.new.self in
+    let places : new ≡ record (behind_record names raw.kind len) { read = new.read } = c.pass.ensures.places (let room = length-bound next in omega (arith, within, room)) in
+    let steps : Steps seen next names new = subst (λ (n : Names). Steps seen next names n) (sym places) (record-steps seen next names k refl (log.stood told c.requires.usable) (log.looked told c.requires.usable) c.requires.unread raw len new.read p c.pass.ensures.read) in
+    let same = c.in-Ok-head_of.ensures.rests.same told ∙ first in
+    subst (λ (l : List ℕ). IsLooked l (records_behind next.buffer.items) new) (sym same) steps.looked
 
 pub returns-in-Ok-head_of-clause-moves : goal.returns-in-Ok-head_of-clause-moves
 returns-in-Ok-head_of-clause-moves g c = λ told.
@@ -62,66 +86,113 @@ returns-in-Ok-head_of-clause-moves g c = λ told.
     let next = log.next in
     let names = log.names in
     let seen = g.D.Disk.seen log.disk in
-    let k : IsKept seen next.gate next.buffer.items names.gate names.at = record { heads = chains_of log.pages.items; fits = λ i. g.met.D.Disk.are_bytes log.disk i told; stands = log.stands told c.requires.usable; are_bytes = next.are_bytes; front = next.front; parsed = next.parsed; stood = log.stood told c.requires.usable } in
-    let is_end : IsEnd seen next.gate next.buffer.items names.gate c.in-Ok.end = subst (λ n. IsEnd seen next.gate next.buffer.items n c.in-Ok.end) c.gate.ensures (c.in-Ok.ensures.durable told, c.in-Ok.ensures.pending) in
-    let before : names.at < c.in-Ok.end = subst (λ n. n < c.in-Ok.end) c.at-at.ensures c.if-at-end.true in
+    let k : IsKept seen next.gate next.buffer.items (frame_of names) (looks_at names) = record { spilled = next.spilled; batch = batch_of next; heads = chains_of log.pages.items; fits = λ i. g.met.D.Disk.are_bytes log.disk i told; stands = log.stands told c.requires.usable; own = next.own; are_bytes = next.are_bytes; front = next.front; parsed = next.parsed; stood = looked-at seen (records_behind next.buffer.items) names (log.stood told c.requires.usable) (log.looked told c.requires.usable) } in
+    let is_end : IsEnd seen next.gate next.buffer.items (frame_of names) c.in-Ok.end = subst (λ n. IsEnd seen next.gate next.buffer.items n c.in-Ok.end) c.gate.ensures (c.in-Ok.ensures.durable told, c.in-Ok.ensures.pending) in
+    let before : looks_at names < c.in-Ok.end = subst (λ n. n < c.in-Ok.end) c.at-at.ensures c.if-at-end.true in
     let first = c.in-Ok.ensures.rests.same told in
     let raw = c.in-Ok-head_of.raw in
     let len = c.in-Ok-head_of.len in
-    let head : IsHead seen next.gate next.buffer.items names.at raw len = subst (λ n. IsHead seen next.gate next.buffer.items n raw len) c.at-at.ensures
+    let head : IsHead seen next.gate next.buffer.items (looks_at names) raw len = subst (λ n. IsHead seen next.gate next.buffer.items n raw len) c.at-at.ensures
     (subst (λ (l : List ℕ). IsHead l next.gate next.buffer.items c.at-at.result raw len) first (c.in-Ok-head_of.ensures.durable told, c.in-Ok-head_of.ensures.pending)) in
-    let p = passed seen next.gate next.buffer.items names.gate names.at k c.in-Ok.end is_end before raw len head in
+    let p = passed seen next.gate next.buffer.items (frame_of names) (looks_at names) k c.in-Ok.end is_end before raw len head in
     let within = p.within in
-    let at : c.pass.new.self.at ≡ names.at + (17 + len) = c.pass.ensures.at (let fits = next.fits in let small = next.small in let room = length-bound next in omega (arith, within, room)) in
-    passed-moves seen next names c.pass.new.self _ c.requires.unread c.pass.ensures.appended c.pass.ensures.read
-    (p.messages ∙ ap (λ n. named_by (log_kind_of (kind_of raw.kind)) raw.page names.at ++ from_place n (all_messages seen next)) (sym at))
+    let new = c.pass.new.self in
+    let places : new ≡ record (behind_record names raw.kind len) { read = new.read } = c.pass.ensures.places (let room = length-bound next in omega (arith, within, room)) in
+    let steps : Steps seen next names new = subst (λ (n : Names). Steps seen next names n) (sym places) (record-steps seen next names k refl (log.stood told c.requires.usable) (log.looked told c.requires.usable) c.requires.unread raw len new.read p c.pass.ensures.read) in
+    steps.moves
 
 pub returns-in-Ok-head_of-clause-further : goal.returns-in-Ok-head_of-clause-further
-returns-in-Ok-head_of-clause-further g c = λ told no.
+returns-in-Ok-head_of-clause-further g c = λ told none.
     let log = c.args.self.now in
     let next = log.next in
     let names = log.names in
     let seen = g.D.Disk.seen log.disk in
-    let k : IsKept seen next.gate next.buffer.items names.gate names.at = record { heads = chains_of log.pages.items; fits = λ i. g.met.D.Disk.are_bytes log.disk i told; stands = log.stands told c.requires.usable; are_bytes = next.are_bytes; front = next.front; parsed = next.parsed; stood = log.stood told c.requires.usable } in
-    let is_end : IsEnd seen next.gate next.buffer.items names.gate c.in-Ok.end = subst (λ n. IsEnd seen next.gate next.buffer.items n c.in-Ok.end) c.gate.ensures (c.in-Ok.ensures.durable told, c.in-Ok.ensures.pending) in
-    let before : names.at < c.in-Ok.end = subst (λ n. n < c.in-Ok.end) c.at-at.ensures c.if-at-end.true in
+    let k : IsKept seen next.gate next.buffer.items (frame_of names) (looks_at names) = record { spilled = next.spilled; batch = batch_of next; heads = chains_of log.pages.items; fits = λ i. g.met.D.Disk.are_bytes log.disk i told; stands = log.stands told c.requires.usable; own = next.own; are_bytes = next.are_bytes; front = next.front; parsed = next.parsed; stood = looked-at seen (records_behind next.buffer.items) names (log.stood told c.requires.usable) (log.looked told c.requires.usable) } in
+    let is_end : IsEnd seen next.gate next.buffer.items (frame_of names) c.in-Ok.end = subst (λ n. IsEnd seen next.gate next.buffer.items n c.in-Ok.end) c.gate.ensures (c.in-Ok.ensures.durable told, c.in-Ok.ensures.pending) in
+    let before : looks_at names < c.in-Ok.end = subst (λ n. n < c.in-Ok.end) c.at-at.ensures c.if-at-end.true in
     let first = c.in-Ok.ensures.rests.same told in
     let raw = c.in-Ok-head_of.raw in
     let len = c.in-Ok-head_of.len in
-    let head : IsHead seen next.gate next.buffer.items names.at raw len = subst (λ n. IsHead seen next.gate next.buffer.items n raw len) c.at-at.ensures
+    let head : IsHead seen next.gate next.buffer.items (looks_at names) raw len = subst (λ n. IsHead seen next.gate next.buffer.items n raw len) c.at-at.ensures
     (subst (λ (l : List ℕ). IsHead l next.gate next.buffer.items c.at-at.result raw len) first (c.in-Ok-head_of.ensures.durable told, c.in-Ok-head_of.ensures.pending)) in
-    let p = passed seen next.gate next.buffer.items names.gate names.at k c.in-Ok.end is_end before raw len head in
+    let p = passed seen next.gate next.buffer.items (frame_of names) (looks_at names) k c.in-Ok.end is_end before raw len head in
     let within = p.within in
-    let at : c.pass.new.self.at ≡ names.at + (17 + len) = c.pass.ensures.at (let fits = next.fits in let small = next.small in let room = length-bound next in omega (arith, within, room)) in
-    omega (arith, at)
+    let new = c.pass.new.self in
+    let places : new ≡ record (behind_record names raw.kind len) { read = new.read } = c.pass.ensures.places (let room = length-bound next in omega (arith, within, room)) in
+    let steps : Steps seen next names new = subst (λ (n : Names). Steps seen next names n) (sym places) (record-steps seen next names k refl (log.stood told c.requires.usable) (log.looked told c.requires.usable) c.requires.unread raw len new.read p c.pass.ensures.read) in
+    steps.step
 
 pub returns-in-Err-clause-ended : goal.returns-in-Err-clause-ended
-returns-in-Err-clause-ended g c = λ told no.
+returns-in-Err-clause-ended g c = λ told stopped.
     let log = c.args.self.now in
     let next = log.next in
     let names = log.names in
     let seen = g.D.Disk.seen log.disk in
-    let k : IsKept seen next.gate next.buffer.items names.gate names.at = record { heads = chains_of log.pages.items; fits = λ i. g.met.D.Disk.are_bytes log.disk i told; stands = log.stands told c.requires.usable; are_bytes = next.are_bytes; front = next.front; parsed = next.parsed; stood = log.stood told c.requires.usable } in
-    let is_end : IsEnd seen next.gate next.buffer.items names.gate c.in-Ok.end = subst (λ n. IsEnd seen next.gate next.buffer.items n c.in-Ok.end) c.gate.ensures (c.in-Ok.ensures.durable told, c.in-Ok.ensures.pending) in
-    let before : names.at < c.in-Ok.end = subst (λ n. n < c.in-Ok.end) c.at-at.ensures c.if-at-end.true in
+    let k : IsKept seen next.gate next.buffer.items (frame_of names) (looks_at names) = record { spilled = next.spilled; batch = batch_of next; heads = chains_of log.pages.items; fits = λ i. g.met.D.Disk.are_bytes log.disk i told; stands = log.stands told c.requires.usable; own = next.own; are_bytes = next.are_bytes; front = next.front; parsed = next.parsed; stood = looked-at seen (records_behind next.buffer.items) names (log.stood told c.requires.usable) (log.looked told c.requires.usable) } in
+    let is_end : IsEnd seen next.gate next.buffer.items (frame_of names) c.in-Ok.end = subst (λ n. IsEnd seen next.gate next.buffer.items n c.in-Ok.end) c.gate.ensures (c.in-Ok.ensures.durable told, c.in-Ok.ensures.pending) in
+    let before : looks_at names < c.in-Ok.end = subst (λ n. n < c.in-Ok.end) c.at-at.ensures c.if-at-end.true in
     let rests = c.in-Ok.ensures.faults.failed_reads in
     let e = c.in-Err.field-0 in
     let grown = ⊎_elim (λ (is : e ≡ ReadFault). c.in-Err.ensures.faults.read (ap (λ e. Err e) is))
-    (λ (is : e ≡ Corruption). let few = rw c.at-at.ensures at c.in-Err.ensures.corrupt (ap (λ e. Err e) is) in absurd (enough seen next.gate next.buffer.items names.gate names.at k c.in-Ok.end is_end before few.0 few.1))
+    (λ (is : e ≡ Corruption). let few = rw c.at-at.ensures at c.in-Err.ensures.corrupt (ap (λ e. Err e) is) in absurd (enough seen next.gate next.buffer.items (frame_of names) (looks_at names) k c.in-Ok.end is_end before few.0 few.1))
     c.in-Err.ensures.only in
-    inr (inr (inl (grown-later (g.D.Disk.counts log.disk).failed_reads (g.D.Disk.counts c.frame_end.new.disk).failed_reads (g.D.Disk.counts c.head_of.new.disk).failed_reads rests grown)))
+    inr (inr (grown-later (g.D.Disk.counts log.disk).failed_reads (g.D.Disk.counts c.frame_end.new.disk).failed_reads (g.D.Disk.counts c.head_of.new.disk).failed_reads rests grown))
 
 pub returns-then-end-gate-clause-ended : goal.returns-then-end-gate-clause-ended
-returns-then-end-gate-clause-ended g c = λ told no.
+returns-then-end-gate-clause-ended g c = λ told stopped.
     let log = c.args.self.now in
     let next = log.next in
     let names = log.names in
     let seen = g.D.Disk.seen log.disk in
-    let k : IsKept seen next.gate next.buffer.items names.gate names.at = record { heads = chains_of log.pages.items; fits = λ i. g.met.D.Disk.are_bytes log.disk i told; stands = log.stands told c.requires.usable; are_bytes = next.are_bytes; front = next.front; parsed = next.parsed; stood = log.stood told c.requires.usable } in
-    let is_end : IsEnd seen next.gate next.buffer.items names.gate c.in-Ok.end = subst (λ n. IsEnd seen next.gate next.buffer.items n c.in-Ok.end) c.gate.ensures (c.in-Ok.ensures.durable told, c.in-Ok.ensures.pending) in
-    let past : c.in-Ok.end ≤ names.at = subst (λ n. c.in-Ok.end ≤ n) c.at-at.ensures c.if-at-end.false in
+    let k : IsKept seen next.gate next.buffer.items (frame_of names) (looks_at names) = record { spilled = next.spilled; batch = batch_of next; heads = chains_of log.pages.items; fits = λ i. g.met.D.Disk.are_bytes log.disk i told; stands = log.stands told c.requires.usable; own = next.own; are_bytes = next.are_bytes; front = next.front; parsed = next.parsed; stood = looked-at seen (records_behind next.buffer.items) names (log.stood told c.requires.usable) (log.looked told c.requires.usable) } in
+    let is_end : IsEnd seen next.gate next.buffer.items (frame_of names) c.in-Ok.end = subst (λ n. IsEnd seen next.gate next.buffer.items n c.in-Ok.end) c.gate.ensures (c.in-Ok.ensures.durable told, c.in-Ok.ensures.pending) in
+    let past : c.in-Ok.end ≤ looks_at names = subst (λ n. c.in-Ok.end ≤ n) c.at-at.ensures c.if-at-end.false in
     let last : next.gate < c.in-Ok.end = subst (λ n. n < c.in-Ok.end) c.gate-2.ensures c.if-end-gate.true in
-    inr (inl (ap (λ r. one_or_none r ++ from_place names.at (all_messages seen next)) c.requires.unread ∙ none-behind seen next.gate next.buffer.items names.gate names.at k c.in-Ok.end is_end past last))
+    inr (inl (none-waits seen next names k refl (log.stood told c.requires.usable) (log.looked told c.requires.usable) c.requires.unread c.in-Ok.end is_end past last (sym c.end.ensures.sought ∙ stopped)))
+
+pub invariant_of-self-then-end-gate-clause-stood : goal.invariant_of-self-then-end-gate-clause-stood
+invariant_of-self-then-end-gate-clause-stood g c = λ told usable.
+    let log = c.args.self.now in
+    let next = log.next in
+    let names = log.names in
+    let seen = g.D.Disk.seen log.disk in
+    let k : IsKept seen next.gate next.buffer.items (frame_of names) (looks_at names) = record { spilled = next.spilled; batch = batch_of next; heads = chains_of log.pages.items; fits = λ i. g.met.D.Disk.are_bytes log.disk i told; stands = log.stands told c.requires.usable; own = next.own; are_bytes = next.are_bytes; front = next.front; parsed = next.parsed; stood = looked-at seen (records_behind next.buffer.items) names (log.stood told c.requires.usable) (log.looked told c.requires.usable) } in
+    let is_end : IsEnd seen next.gate next.buffer.items (frame_of names) c.in-Ok.end = subst (λ n. IsEnd seen next.gate next.buffer.items n c.in-Ok.end) c.gate.ensures (c.in-Ok.ensures.durable told, c.in-Ok.ensures.pending) in
+    let past : c.in-Ok.end ≤ looks_at names = subst (λ n. c.in-Ok.end ≤ n) c.at-at.ensures c.if-at-end.false in
+    let last : next.gate < c.in-Ok.end = subst (λ n. n < c.in-Ok.end) c.gate-2.ensures c.if-end-gate.true in
+    let keeps = end-keeps seen next names k refl (log.stood told c.requires.usable) (log.looked told c.requires.usable) c.requires.unread c.in-Ok.end is_end past last in
+    subst (λ (l : List ℕ). IsAmong l (records_behind next.buffer.items) c.end.new.self.gate c.end.new.self.at) (sym (c.in-Ok.ensures.rests.same told)) (subst (λ (n : Names). IsAmong seen (records_behind next.buffer.items) n.gate n.at) (sym c.end.ensures.kept) keeps.0)
+
+pub invariant_of-self-then-end-gate-clause-looked : goal.invariant_of-self-then-end-gate-clause-looked
+invariant_of-self-then-end-gate-clause-looked g c = λ told usable.
+    let log = c.args.self.now in
+    let next = log.next in
+    let names = log.names in
+    let seen = g.D.Disk.seen log.disk in
+    let k : IsKept seen next.gate next.buffer.items (frame_of names) (looks_at names) = record { spilled = next.spilled; batch = batch_of next; heads = chains_of log.pages.items; fits = λ i. g.met.D.Disk.are_bytes log.disk i told; stands = log.stands told c.requires.usable; own = next.own; are_bytes = next.are_bytes; front = next.front; parsed = next.parsed; stood = looked-at seen (records_behind next.buffer.items) names (log.stood told c.requires.usable) (log.looked told c.requires.usable) } in
+    let is_end : IsEnd seen next.gate next.buffer.items (frame_of names) c.in-Ok.end = subst (λ n. IsEnd seen next.gate next.buffer.items n c.in-Ok.end) c.gate.ensures (c.in-Ok.ensures.durable told, c.in-Ok.ensures.pending) in
+    let past : c.in-Ok.end ≤ looks_at names = subst (λ n. c.in-Ok.end ≤ n) c.at-at.ensures c.if-at-end.false in
+    let last : next.gate < c.in-Ok.end = subst (λ n. n < c.in-Ok.end) c.gate-2.ensures c.if-end-gate.true in
+    let keeps = end-keeps seen next names k refl (log.stood told c.requires.usable) (log.looked told c.requires.usable) c.requires.unread c.in-Ok.end is_end past last in
+    subst (λ (l : List ℕ). IsLooked l (records_behind next.buffer.items) c.end.new.self) (sym (c.in-Ok.ensures.rests.same told)) (subst (λ (n : Names). IsLooked seen (records_behind next.buffer.items) n) (sym c.end.ensures.kept) keeps.1)
+
+pub returns-then-end-gate-clause-moves : goal.returns-then-end-gate-clause-moves
+returns-then-end-gate-clause-moves g c = λ told.
+    let log = c.args.self.now in
+    let next = log.next in
+    let names = log.names in
+    let seen = g.D.Disk.seen log.disk in
+    let k : IsKept seen next.gate next.buffer.items (frame_of names) (looks_at names) = record { spilled = next.spilled; batch = batch_of next; heads = chains_of log.pages.items; fits = λ i. g.met.D.Disk.are_bytes log.disk i told; stands = log.stands told c.requires.usable; own = next.own; are_bytes = next.are_bytes; front = next.front; parsed = next.parsed; stood = looked-at seen (records_behind next.buffer.items) names (log.stood told c.requires.usable) (log.looked told c.requires.usable) } in
+    let is_end : IsEnd seen next.gate next.buffer.items (frame_of names) c.in-Ok.end = subst (λ n. IsEnd seen next.gate next.buffer.items n c.in-Ok.end) c.gate.ensures (c.in-Ok.ensures.durable told, c.in-Ok.ensures.pending) in
+    let past : c.in-Ok.end ≤ looks_at names = subst (λ n. c.in-Ok.end ≤ n) c.at-at.ensures c.if-at-end.false in
+    let last : next.gate < c.in-Ok.end = subst (λ n. n < c.in-Ok.end) c.gate-2.ensures c.if-end-gate.true in
+    let keeps = end-keeps seen next names k refl (log.stood told c.requires.usable) (log.looked told c.requires.usable) c.requires.unread c.in-Ok.end is_end past last in
+    subst (λ (n : Names). moves_in seen next n ≡ moves_in seen next names) (sym c.end.ensures.kept) keeps.2
+
+pub returns-then-end-gate-clause-further : goal.returns-then-end-gate-clause-further
+returns-then-end-gate-clause-further g c = λ told went.
+    let names = c.args.self.now.names in
+    subst (λ (n : Names). IsStep names n) (sym c.end.ensures.kept) (inr (refl, sym c.end.ensures.sought ∙ went, inr refl))
 
 pub invariant_of-self-2-clause-stood : goal.invariant_of-self-2-clause-stood
 invariant_of-self-2-clause-stood g c = λ told usable.
@@ -129,14 +200,27 @@ invariant_of-self-2-clause-stood g c = λ told usable.
     let next = log.next in
     let names = log.names in
     let seen = g.D.Disk.seen log.disk in
-    let k : IsKept seen next.gate next.buffer.items names.gate names.at = record { heads = chains_of log.pages.items; fits = λ i. g.met.D.Disk.are_bytes log.disk i told; stands = log.stands told c.requires.usable; are_bytes = next.are_bytes; front = next.front; parsed = next.parsed; stood = log.stood told c.requires.usable } in
-    let is_end : IsEnd seen next.gate next.buffer.items names.gate c.in-Ok.end = subst (λ n. IsEnd seen next.gate next.buffer.items n c.in-Ok.end) c.gate.ensures (c.in-Ok.ensures.durable told, c.in-Ok.ensures.pending) in
-    let past : c.in-Ok.end ≤ names.at = subst (λ n. c.in-Ok.end ≤ n) c.at-at.ensures c.if-at-end.false in
+    let k : IsKept seen next.gate next.buffer.items (frame_of names) (looks_at names) = record { spilled = next.spilled; batch = batch_of next; heads = chains_of log.pages.items; fits = λ i. g.met.D.Disk.are_bytes log.disk i told; stands = log.stands told c.requires.usable; own = next.own; are_bytes = next.are_bytes; front = next.front; parsed = next.parsed; stood = looked-at seen (records_behind next.buffer.items) names (log.stood told c.requires.usable) (log.looked told c.requires.usable) } in
+    let is_end : IsEnd seen next.gate next.buffer.items (frame_of names) c.in-Ok.end = subst (λ n. IsEnd seen next.gate next.buffer.items n c.in-Ok.end) c.gate.ensures (c.in-Ok.ensures.durable told, c.in-Ok.ensures.pending) in
+    let past : c.in-Ok.end ≤ looks_at names = subst (λ n. c.in-Ok.end ≤ n) c.at-at.ensures c.if-at-end.false in
     let le : c.in-Ok.end ≤ next.gate = subst (λ n. c.in-Ok.end ≤ n) c.gate-2.ensures c.if-end-gate.false in
-    let same = c.in-Ok.ensures.rests.same told in
-    subst (λ (l : List ℕ). IsAmong l (records_behind next.buffer.items) c.enter.new.self.gate c.enter.new.self.at) (sym same)
-    (subst (λ n. IsAmong seen (records_behind next.buffer.items) n c.enter.new.self.at) (sym c.enter.ensures.gate)
-    (subst (λ n. IsAmong seen (records_behind next.buffer.items) c.in-Ok.end n) (sym c.enter.ensures.at) (next-among seen next.gate next.buffer.items names.gate names.at k c.in-Ok.end is_end past le)))
+    let new = c.enter.new.self in
+    let steps : Steps seen next names new = subst (λ (n : Names). Steps seen next names n) (sym c.enter.ensures) (gate-steps seen next names k refl (log.stood told c.requires.usable) (log.looked told c.requires.usable) c.requires.unread c.in-Ok.end is_end past le) in
+    subst (λ (l : List ℕ). IsAmong l (records_behind next.buffer.items) new.gate new.at) (sym (c.in-Ok.ensures.rests.same told)) steps.stood
+
+pub invariant_of-self-2-clause-looked : goal.invariant_of-self-2-clause-looked
+invariant_of-self-2-clause-looked g c = λ told usable.
+    let log = c.args.self.now in
+    let next = log.next in
+    let names = log.names in
+    let seen = g.D.Disk.seen log.disk in
+    let k : IsKept seen next.gate next.buffer.items (frame_of names) (looks_at names) = record { spilled = next.spilled; batch = batch_of next; heads = chains_of log.pages.items; fits = λ i. g.met.D.Disk.are_bytes log.disk i told; stands = log.stands told c.requires.usable; own = next.own; are_bytes = next.are_bytes; front = next.front; parsed = next.parsed; stood = looked-at seen (records_behind next.buffer.items) names (log.stood told c.requires.usable) (log.looked told c.requires.usable) } in
+    let is_end : IsEnd seen next.gate next.buffer.items (frame_of names) c.in-Ok.end = subst (λ n. IsEnd seen next.gate next.buffer.items n c.in-Ok.end) c.gate.ensures (c.in-Ok.ensures.durable told, c.in-Ok.ensures.pending) in
+    let past : c.in-Ok.end ≤ looks_at names = subst (λ n. c.in-Ok.end ≤ n) c.at-at.ensures c.if-at-end.false in
+    let le : c.in-Ok.end ≤ next.gate = subst (λ n. c.in-Ok.end ≤ n) c.gate-2.ensures c.if-end-gate.false in
+    let new = c.enter.new.self in
+    let steps : Steps seen next names new = subst (λ (n : Names). Steps seen next names n) (sym c.enter.ensures) (gate-steps seen next names k refl (log.stood told c.requires.usable) (log.looked told c.requires.usable) c.requires.unread c.in-Ok.end is_end past le) in
+    subst (λ (l : List ℕ). IsLooked l (records_behind next.buffer.items) new) (sym (c.in-Ok.ensures.rests.same told)) steps.looked
 
 pub returns-clause-moves : goal.returns-clause-moves
 returns-clause-moves g c = λ told.
@@ -144,21 +228,24 @@ returns-clause-moves g c = λ told.
     let next = log.next in
     let names = log.names in
     let seen = g.D.Disk.seen log.disk in
-    let k : IsKept seen next.gate next.buffer.items names.gate names.at = record { heads = chains_of log.pages.items; fits = λ i. g.met.D.Disk.are_bytes log.disk i told; stands = log.stands told c.requires.usable; are_bytes = next.are_bytes; front = next.front; parsed = next.parsed; stood = log.stood told c.requires.usable } in
-    let is_end : IsEnd seen next.gate next.buffer.items names.gate c.in-Ok.end = subst (λ n. IsEnd seen next.gate next.buffer.items n c.in-Ok.end) c.gate.ensures (c.in-Ok.ensures.durable told, c.in-Ok.ensures.pending) in
-    let past : c.in-Ok.end ≤ names.at = subst (λ n. c.in-Ok.end ≤ n) c.at-at.ensures c.if-at-end.false in
-    skipped-moves seen next names c.enter.new.self c.enter.ensures.read c.enter.ensures.appended
-    (ap (λ n. from_place n (all_messages seen next)) c.enter.ensures.at ∙ next-same seen next.gate next.buffer.items names.gate names.at k c.in-Ok.end is_end past)
+    let k : IsKept seen next.gate next.buffer.items (frame_of names) (looks_at names) = record { spilled = next.spilled; batch = batch_of next; heads = chains_of log.pages.items; fits = λ i. g.met.D.Disk.are_bytes log.disk i told; stands = log.stands told c.requires.usable; own = next.own; are_bytes = next.are_bytes; front = next.front; parsed = next.parsed; stood = looked-at seen (records_behind next.buffer.items) names (log.stood told c.requires.usable) (log.looked told c.requires.usable) } in
+    let is_end : IsEnd seen next.gate next.buffer.items (frame_of names) c.in-Ok.end = subst (λ n. IsEnd seen next.gate next.buffer.items n c.in-Ok.end) c.gate.ensures (c.in-Ok.ensures.durable told, c.in-Ok.ensures.pending) in
+    let past : c.in-Ok.end ≤ looks_at names = subst (λ n. c.in-Ok.end ≤ n) c.at-at.ensures c.if-at-end.false in
+    let le : c.in-Ok.end ≤ next.gate = subst (λ n. c.in-Ok.end ≤ n) c.gate-2.ensures c.if-end-gate.false in
+    let new = c.enter.new.self in
+    let steps : Steps seen next names new = subst (λ (n : Names). Steps seen next names n) (sym c.enter.ensures) (gate-steps seen next names k refl (log.stood told c.requires.usable) (log.looked told c.requires.usable) c.requires.unread c.in-Ok.end is_end past le) in
+    steps.moves
 
 pub returns-clause-further : goal.returns-clause-further
-returns-clause-further g c = λ told no.
+returns-clause-further g c = λ told none.
     let log = c.args.self.now in
     let next = log.next in
     let names = log.names in
     let seen = g.D.Disk.seen log.disk in
-    let k : IsKept seen next.gate next.buffer.items names.gate names.at = record { heads = chains_of log.pages.items; fits = λ i. g.met.D.Disk.are_bytes log.disk i told; stands = log.stands told c.requires.usable; are_bytes = next.are_bytes; front = next.front; parsed = next.parsed; stood = log.stood told c.requires.usable } in
-    let is_end : IsEnd seen next.gate next.buffer.items names.gate c.in-Ok.end = subst (λ n. IsEnd seen next.gate next.buffer.items n c.in-Ok.end) c.gate.ensures (c.in-Ok.ensures.durable told, c.in-Ok.ensures.pending) in
-    let past : c.in-Ok.end ≤ names.at = subst (λ n. c.in-Ok.end ≤ n) c.at-at.ensures c.if-at-end.false in
-    let further = next-further seen next.gate next.buffer.items names.gate names.at k c.in-Ok.end is_end past in
-    let at = c.enter.ensures.at in
-    omega (arith, further, at)
+    let k : IsKept seen next.gate next.buffer.items (frame_of names) (looks_at names) = record { spilled = next.spilled; batch = batch_of next; heads = chains_of log.pages.items; fits = λ i. g.met.D.Disk.are_bytes log.disk i told; stands = log.stands told c.requires.usable; own = next.own; are_bytes = next.are_bytes; front = next.front; parsed = next.parsed; stood = looked-at seen (records_behind next.buffer.items) names (log.stood told c.requires.usable) (log.looked told c.requires.usable) } in
+    let is_end : IsEnd seen next.gate next.buffer.items (frame_of names) c.in-Ok.end = subst (λ n. IsEnd seen next.gate next.buffer.items n c.in-Ok.end) c.gate.ensures (c.in-Ok.ensures.durable told, c.in-Ok.ensures.pending) in
+    let past : c.in-Ok.end ≤ looks_at names = subst (λ n. c.in-Ok.end ≤ n) c.at-at.ensures c.if-at-end.false in
+    let le : c.in-Ok.end ≤ next.gate = subst (λ n. c.in-Ok.end ≤ n) c.gate-2.ensures c.if-end-gate.false in
+    let new = c.enter.new.self in
+    let steps : Steps seen next names new = subst (λ (n : Names). Steps seen next names n) (sym c.enter.ensures) (gate-steps seen next names k refl (log.stood told c.requires.usable) (log.looked told c.requires.usable) c.requires.unread c.in-Ok.end is_end past le) in
+    steps.step

@@ -1,12 +1,8 @@
-use Rattle.std.proofs.Common.{◌≡◌, ◌+◌, drop, ◌∷◌, [], ℕ, List, true, false, Some, length, sym, ◌∙◌, ap, subst, rules}
-use Rattle.sled_disk.specs.Format.{Record, body}
-use Rattle.sled_disk.specs.Pending.{count, open_by, batch_at}
-use Rattle.sled_disk.specs.PendingLaws.{count-more, open_by-more}
-use Rattle.std.proofs.lemmas.List.{length-append}
+use Rattle.std.proofs.Common.{◌≡◌, drop, ℕ, List, Some, sym, ◌∙◌, ap, subst, rules}
+use Rattle.sled_disk.specs.Format.{Record}
 use Rattle.sled_disk.specs.Reading.{records_of}
-use Rattle.sled_disk.specs.declared.mark.Mark.TheVariants.{Change}
 use Rattle.sled_disk.specs.Standing.{records_behind}
-use Rattle.sled_disk.proofs.Waiting.{behind-pushed, parsed-pushed, batch-more, place-is}
+use Rattle.sled_disk.proofs.Waiting.{behind-pushed, parsed-pushed, push-keeps, push-own}
 use Rattle.sled_disk.proofs.next_frame.NextFrame.push.Goals as goal
 
 pub returns-clause-records : goal.returns-clause-records
@@ -24,22 +20,14 @@ invariant_of-self-clause-parsed c =
     let r : Record = record { kind = c.args.kind; id = c.args.page; payload = c.args.payload.now } in
     subst (λ (l : List ℕ). records_of (drop 8 l) ≡ Some (records_behind l)) (sym c.push_record.ensures.items) (parsed-pushed self.buffer.items r self.are_bytes self.front self.parsed (record { id = search rules; payload = search rules }))
 
-pub invariant_of-self-clause-counted : goal.invariant_of-self-clause-counted
-invariant_of-self-clause-counted c =
-    let self = c.args.self.now in
-    let r : Record = record { kind = c.args.kind; id = c.args.page; payload = c.args.payload.now } in
-    let records = ap records_behind c.push_record.ensures.items ∙ behind-pushed self.buffer.items r self.are_bytes self.front self.parsed (record { id = search rules; payload = search rules }) in
-    ap count c.push_reserved.ensures.items ∙ count-more self.marks.items Change ∙ ap (λ n. n + 1) self.counted ∙ sym (ap length records ∙ length-append (records_behind self.buffer.items) (r ∷ []))
-
 pub invariant_of-self-clause-batch_is : goal.invariant_of-self-clause-batch_is
-invariant_of-self-clause-batch_is c = c.args.self.now.batch_is ∙ sym (ap (open_by false) c.push_reserved.ensures.items ∙ open_by-more false c.args.self.now.marks.items Change)
-
-pub invariant_of-self-clause-batch_stands : goal.invariant_of-self-clause-batch_stands
-invariant_of-self-clause-batch_stands c = λ opened.
+invariant_of-self-clause-batch_is c =
     let self = c.args.self.now in
     let r : Record = record { kind = c.args.kind; id = c.args.page; payload = c.args.payload.now } in
-    let records = ap records_behind c.push_record.ensures.items ∙ behind-pushed self.buffer.items r self.are_bytes self.front self.parsed (record { id = search rules; payload = search rules }) in
-    let place = c.place-self.ensures ∙ place-is self.gate self.buffer.items self.are_bytes self.front self.parsed in
-    subst (λ n. batch_at (self.gate + 9) self.batch_place n (records_behind c.push_record.new.buffer.items) ≡ true) (sym place)
-    (subst (λ (rs : List Record). batch_at (self.gate + 9) self.batch_place ((self.gate + 9) + length (body (records_behind self.buffer.items))) rs ≡ true) (sym records)
-    (batch-more (self.gate + 9) self.batch_place self.last_place (records_behind self.buffer.items) r (self.batch_stands opened)))
+    push-keeps (records_behind self.buffer.items) (records_behind c.push_record.new.buffer.items) r self.spilled self.batch _ (ap records_behind c.push_record.ensures.items ∙ behind-pushed self.buffer.items r self.are_bytes self.front self.parsed (record { id = search rules; payload = search rules })) self.batch_is (c.requires.not_mark)
+
+pub invariant_of-self-clause-own : goal.invariant_of-self-clause-own
+invariant_of-self-clause-own c =
+    let self = c.args.self.now in
+    let r : Record = record { kind = c.args.kind; id = c.args.page; payload = c.args.payload.now } in
+    push-own (records_behind self.buffer.items) (records_behind c.push_record.new.buffer.items) r (ap records_behind c.push_record.ensures.items ∙ behind-pushed self.buffer.items r self.are_bytes self.front self.parsed (record { id = search rules; payload = search rules })) self.own (c.requires.own)

@@ -4,6 +4,7 @@ use Rattle.std.specs.Global.{Vec}
 use Rattle.sled_disk.specs.declared.head.Head.{Head}
 use Rattle.sled_disk.specs.Format.{opening}
 use Rattle.sled_disk.specs.Left.{left_at}
+use Rattle.sled_disk.specs.Format.{outside}
 use Rattle.sled_disk.specs.Reading.{chains_of, found_at}
 use Rattle.sled_disk.specs.WholeLaws.{described-opens}
 use Rattle.sled_disk.proofs.Going.{shows-still}
@@ -39,5 +40,5 @@ returns-clause-goes_on g c = λ told.
       opens = opens;
       end = c.in_ok-end.ensures.len told ∙ ap (λ (l : List ℕ). length l) (sym (same ∙ c.in_ok-end.ensures.seen told));
       shows = shows-still window (g.D.Disk.seen c.len.new.self) seen (sym same) (c.in_ok-from.ensures.shows told);
-      left = ap (λ (targets : List ℕ). left_at seen 8 8 targets (chains_of c.new.result.items)) c.new-2.ensures ∙ left-gate seen 8 (chains_of c.new.result.items) ∙ ap (λ (pages : List (Vec Head)). found_at 8 (chains_of pages) (drop 8 seen)) c.new.ensures.items;
+      left = ap (λ (targets : List ℕ). left_at seen 8 8 targets (outside (chains_of c.new.result.items))) c.new-2.ensures ∙ left-gate seen 8 (outside (chains_of c.new.result.items)) ∙ ap (λ (pages : List (Vec Head)). found_at 8 (outside (chains_of pages)) (drop 8 seen)) c.new.ensures.items;
     }

@@ -2,8 +2,9 @@ use Rattle.std.proofs.Common.{◌+◌, ℕ, List, length, subst, arith}
 use Rattle.std.proofs.lemmas.Bool.{eqb-true, eqb-false}
 use Rattle.sled_disk.specs.OnDisk.{BodyOnDisk, HasBody}
 use Rattle.sled_disk.specs.Reading.{chains_of}
-use Rattle.sled_disk.proofs.Going.{goes-awaited, goes-ended, goes-closed, goes-far, goes-torn, goes-opened, shows-still}
+use Rattle.sled_disk.proofs.Going.{goes-awaited, goes-ended, goes-closed, goes-far, goes-torn, goes-opened, shows-still, room-known}
 use Rattle.sled_disk.proofs.Heads.{heads-later}
+use Rattle.sled_disk.proofs.TakenBy.{waiting-later}
 use Rattle.sled_disk.proofs.reader.Reader.pass_gate.Goals as goal
 
 pub returns-then-not-is_empty-clause-corrupt : goal.returns-then-not-is_empty-clause-corrupt
@@ -17,19 +18,23 @@ returns-then-self-clause-corrupt g c = λ told is.
     let met = eqb-true (length self.targets) 0 (let h = c.if-not-is_empty.false in let e = c.is_empty.ensures in cc) in
     goes-ended (g.D.Disk.seen c.args.disk.now) self (c.requires.goes_on told) c.requires.gate met c.if-self.true
 
-pub returns-then-self-gt-MAX_PLACE-clause-corrupt : goal.returns-then-self-gt-MAX_PLACE-clause-corrupt
-returns-then-self-gt-MAX_PLACE-clause-corrupt g c = λ told is.
+pub returns-then-self-greatest-clause-corrupt : goal.returns-then-self-greatest-clause-corrupt
+returns-then-self-greatest-clause-corrupt g c = λ told is.
     let self = c.args.self.now in
     let met = eqb-true (length self.targets) 0 (let h = c.if-not-is_empty.false in let e = c.is_empty.ensures in cc) in
-    let far = c.if-self-gt-MAX_PLACE.true in
-    goes-far (g.D.Disk.seen c.args.disk.now) self (c.requires.goes_on told) c.requires.gate met c.if-self.false c.in_ok-gate_on.field-0 (c.in_ok-gate_on.ensures.gate told) c.if-branch-eq0.true (omega arith)
+    let far = c.if-self-greatest.true in
+    let room = room-known self.begun self.changes.items in
+    let greatest = c.greatest_gate-greatest.ensures in
+    goes-far (g.D.Disk.seen c.args.disk.now) self (c.requires.goes_on told) c.requires.gate met c.if-self.false c.in_ok-gate_on.field-0 (c.in_ok-gate_on.ensures.gate told) c.if-branch-eq0.true (omega (arith, room, greatest))
 
 pub returns-then-branch-eq0-clause-closed : goal.returns-then-branch-eq0-clause-closed
 returns-then-branch-eq0-clause-closed g c = λ told is.
     let self = c.args.self.now in
     let met = eqb-true (length self.targets) 0 (let h = c.if-not-is_empty.false in let e = c.is_empty.ensures in cc) in
-    let small = c.if-self-gt-MAX_PLACE.false in
-    goes-closed (g.D.Disk.seen c.args.disk.now) self (c.requires.goes_on told) c.requires.gate met c.if-self.false c.in_ok-gate_on.field-0 (c.in_ok-gate_on.ensures.gate told) c.if-branch-eq0.true (omega arith)
+    let small = c.if-self-greatest.false in
+    let room = room-known self.begun self.changes.items in
+    let greatest = c.greatest_gate-greatest.ensures in
+    goes-closed (g.D.Disk.seen c.args.disk.now) self (c.requires.goes_on told) c.requires.gate met c.if-self.false c.in_ok-gate_on.field-0 (c.in_ok-gate_on.ensures.gate told) c.if-branch-eq0.true (omega (arith, room, greatest))
 
 pub returns-in_default-clause-corrupt : goal.returns-in_default-clause-corrupt
 returns-in_default-clause-corrupt g c = λ told is.
@@ -44,6 +49,8 @@ invariant_of-self-2 g c =
     let has = subst (HasBody (self.at + 1) self.end) c.in-Some.is c.in_ok-len.ensures.has in
     let all = has.1 in
     record {
+      none = self.none;
+      waiting = waiting-later self.at (self.at + 9) self.changes.items (omega arith) self.waiting;
       within = omega arith;
       inside = omega arith;
       heads = heads-later self.at (self.at + 9) (chains_of self.pages.items) (omega arith) self.heads;

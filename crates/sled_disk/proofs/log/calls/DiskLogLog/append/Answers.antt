@@ -1,12 +1,13 @@
-use Rattle.std.proofs.Common.{◌<◌, length, sym, ◌∙◌, ap, arith}
+use Rattle.std.proofs.Common.{length, sym, ◌∙◌, ap, arith}
 use Rattle.std.proofs.lemmas.Result.{err_from_is_err_and}
+use Rattle.sled_disk.specs.declared.names.Names.{Names}
 use Rattle.sled_disk.specs.declared.next_frame.NextFrame.{NextFrame}
 use Rattle.sled_disk.specs.Pending.{state_in}
 use Rattle.sled_disk.proofs.ThenRead.{called-then, then-rests}
 use Rattle.sled_log.specs.Moves.{Moves}
 use Rattle.sled_disk.specs.Names.{moves_in}
 use Rattle.sled_disk.specs.Waiting.{place_of}
-use Rattle.sled_disk.proofs.Unnamed.{due-of-all, never-empty}
+use Rattle.sled_disk.proofs.Unnamed.{due-of-all, read-ahead, never-empty}
 use Rattle.sled_disk.proofs.log.calls.DiskLogLog.append.Goals as goal
 
 pub returns-in_err-said-clause-called : goal.returns-in_err-said-clause-called
@@ -19,25 +20,33 @@ returns-clause-called g c =
     let mid = c.put.new.self in
     let new = c.read_name.new.self in
     let usable = c.read_name.ensures.usable ∙ sym c.in_ok-said.ensures.called.usable in
-    called-then (λ log. log.disk) (λ log. log.next.gate) (λ log. log.next.marks.items) (λ log. log.next.buffer.items) (λ log. log.usable) (λ log. log.reads)
+    called-then (λ log. log.disk) (λ log. log.next.gate) (λ log. log.next.spilled) (λ log. log.next.buffer.items) (λ log. log.usable) (λ log. log.reads)
     g.D.Disk.tells g.D.Disk.seen g.D.Disk.may_leave g.D.Disk.moment g.D.Disk.left_since g.D.Disk.counts
     c.args.self.now mid new _ _ _ c.in_ok-said.said c.in_ok-said.ensures.called c.read_name.ensures.rests c.read_name.ensures.failed_reads c.read_name.ensures.write_faults
     usable c.read_name.ensures.reads
-    (λ l. ap (λ (next : NextFrame). state_in l next.gate next.marks.items next.buffer.items new.usable) c.read_name.ensures.next ∙ ap (state_in l mid.next.gate mid.next.marks.items mid.next.buffer.items) usable)
+    (λ l. ap (λ (next : NextFrame). state_in l next.gate next.spilled next.buffer.items new.usable) c.read_name.ensures.next ∙ ap (state_in l mid.next.gate mid.next.spilled mid.next.buffer.items) usable)
 
 pub returns-clause-any_moment : goal.returns-clause-any_moment
 returns-clause-any_moment g c = λ told.
     let mid = c.put.new.self in
     then-rests g.D.Disk.seen g.D.Disk.may_leave g.D.Disk.moment g.D.Disk.left_since c.args.self.now.disk mid.disk c.read_name.new.self.disk _ told (c.put.ensures.any_moment told) c.read_name.ensures.rests
 
-pub returns-clause-due : goal.returns-clause-due
-returns-clause-due g c = λ told.
+-- what was read behind a message more
+pub returns-clause-read : goal.returns-clause-read
+returns-clause-read g c = λ told lt.
     let log = c.args.self.now in
     let mid = c.put.new.self in
     let new = c.read_name.new.self in
     let counts = g.D.Disk.counts in
-    let every = c.read_name.ensures.settings.1 in
+    let moves = moves_in (g.D.Disk.seen mid.disk) mid.next mid.names in
     let kept = c.put.ensures.settings.1 in
-    let some = λ (lt : 0 < mid.clean_every). never-empty (moves_in (g.D.Disk.seen log.disk) log.next log.names).waiting (c.args.pid, place_of log.next) (moves_in (g.D.Disk.seen mid.disk) mid.next mid.names).waiting (ap (λ (m : Moves). m.waiting) (c.in_ok-said.ensures.named told (omega (arith, lt, kept)))) in
-    rw (every, c.read_name.ensures.rests.same told, c.read_name.ensures.next)
-    (due-of-all (length new.pages.items) mid.clean_every (g.D.Disk.seen mid.disk) mid.next log.names mid.names new.names (counts log.disk) (counts mid.disk) (counts new.disk) (c.read_name.ensures.read told) c.read_name.ensures.appended c.put.ensures.at c.put.ensures.failed_reads some)
+    let some = never-empty (moves_in (g.D.Disk.seen log.disk) log.next log.names).waiting (c.args.pid, place_of log.next) moves.waiting (ap (λ (m : Moves). m.waiting) (c.in_ok-said.ensures.named told lt)) in
+    read-ahead log.names mid.names new.names (counts log.disk) (counts mid.disk) (counts new.disk) moves (c.read_name.ensures.read told (omega (arith, lt, kept))) some (ap (λ (n : Names). n.at) c.put.ensures.places) (ap (λ (n : Names). n.ahead) c.put.ensures.places) (ap (λ (n : Names). n.seeks) c.put.ensures.places) c.put.ensures.failed_reads
+
+pub returns-clause-due : goal.returns-clause-due
+returns-clause-due g c = λ told.
+    let log = c.args.self.now in
+    let new = c.read_name.new.self in
+    let counts = g.D.Disk.counts in
+    let same = c.read_name.ensures.settings.1 ∙ c.put.ensures.settings.1 in
+    due-of-all (length new.pages.items) new.clean_every (g.D.Disk.seen new.disk) new.next log.names new.names (counts log.disk) (counts new.disk) (λ lt. returns-clause-read g c told (omega (arith, lt, same)))

@@ -3,4 +3,4 @@ use Rattle.sled_disk.proofs.Calling.{opens-by}
 use Rattle.sled_disk.proofs.log.calls.DiskLogLog.batch_open.Goals as goal
 
 pub returns : goal.returns
-returns g c = let next = c.args.self.now.next in c.batch_open.ensures ∙ next.batch_is ∙ sym (opens-by next.gate next.marks.items next.buffer.items)
+returns g c = let log = c.args.self.now in let next = log.next in c.batch_open.ensures ∙ next.batch_is ∙ sym (opens-by (g.D.Disk.seen log.disk) next.gate next.spilled next.buffer.items)

@@ -1,21 +1,66 @@
-use Rattle.std.proofs.Common.{ℕ, List, refl, sym, ◌∙◌, ap}
+use Rattle.std.proofs.Common.{◌≡◌, ℕ, List, true, arith, refl, sym, ◌∙◌, ap, subst}
+use Rattle.std.specs.Prelude.{Option}
+use Rattle.sled_disk.specs.Counting.{IsLooked}
+use Rattle.sled_disk.specs.Cursor.{IsAmong}
+use Rattle.sled_disk.specs.Format.{Record, closing_record}
 use Rattle.sled_disk.specs.Pending.{pending_in}
 use Rattle.sled_disk.specs.Reading.{chains_of}
-use Rattle.sled_disk.proofs.Adding.{pending-cancel}
+use Rattle.sled_disk.specs.Standing.{Stands, records_behind}
+use Rattle.sled_disk.specs.Waiting.{place_of, batch_of}
+use Rattle.sled_disk.proofs.Adding.{closing-stands, waiting-more}
+use Rattle.sled_disk.proofs.Kept.{all-later}
 use Rattle.sled_disk.proofs.Calling.{opens-by, called-waits, rests-same}
+use Rattle.sled_disk.proofs.Written.{open-batch, closed-batch}
+use Rattle.sled_disk.proofs.Looked.{looked-more}
+use Rattle.sled_disk.proofs.Unnamed.{among-more, moves-marked}
 use Rattle.sled_disk.proofs.log.calls.DiskLogLog.cancel.Goals as goal
 
 pub cancel-requires : goal.cancel-requires
-cancel-requires g c = record { opened = let next = c.args.self.now.next in next.batch_is ∙ sym (opens-by next.gate next.marks.items next.buffer.items) ∙ c.requires.opened }
+cancel-requires g c = record { opened = let log = c.args.self.now in let next = log.next in next.batch_is ∙ sym (opens-by (g.D.Disk.seen log.disk) next.gate next.spilled next.buffer.items) ∙ c.requires.opened }
+
+pub invariant_of-self-clause-stands : goal.invariant_of-self-clause-stands
+invariant_of-self-clause-stands g c = λ told usable.
+    let log = c.args.self.now in
+    let next = c.cancel.new.self in
+    let opened : log.next.batch ≡ true = log.next.batch_is ∙ sym (opens-by (g.D.Disk.seen log.disk) log.next.gate log.next.spilled log.next.buffer.items) ∙ c.requires.opened in
+    subst (λ n. Stands (g.D.Disk.seen log.disk) n next.spilled (records_behind next.buffer.items) (batch_of next) (chains_of log.pages.items)) (sym c.cancel.ensures.gate)
+    (subst (λ b. Stands (g.D.Disk.seen log.disk) log.next.gate b (records_behind next.buffer.items) (batch_of next) (chains_of log.pages.items)) (sym c.cancel.ensures.spilled)
+    (subst (λ (b : Option ℕ). Stands (g.D.Disk.seen log.disk) log.next.gate log.next.spilled (records_behind next.buffer.items) b (chains_of log.pages.items)) (sym (closed-batch next c.cancel.ensures.batch))
+    (closing-stands (g.D.Disk.seen log.disk) log.next.gate log.next.spilled log.next.buffer.items next.buffer.items (batch_of log.next) log.next.batch_place 1 (chains_of log.pages.items) (λ i. g.met.D.Disk.are_bytes log.disk i told) (open-batch log.next opened) c.cancel.ensures.small refl refl (log.stands told usable) c.cancel.ensures.records)))
 
 pub returns-clause-called : goal.returns-clause-called
 returns-clause-called g c =
     let log = c.args.self.now in
     let next = c.cancel.new.self in
-    called-waits (λ log. log.disk) (λ log. log.next.gate) (λ log. log.next.marks.items) (λ log. log.next.buffer.items) (λ log. log.usable) (λ log. log.reads)
+    called-waits (λ log. log.disk) (λ log. log.next.gate) (λ log. log.next.spilled) (λ log. log.next.buffer.items) (λ log. batch_of log.next) (λ log. log.usable) (λ log. log.reads)
     g.D.Disk.tells g.D.Disk.seen g.D.Disk.may_leave g.D.Disk.moment g.D.Disk.left_since g.D.Disk.counts (λ disk left told was. g.met.D.Disk.only_now disk left told was)
     log _ _ _ tt (rests-same g.D.Disk.seen g.D.Disk.may_leave g.D.Disk.moment g.D.Disk.left_since g.D.Disk.tells log.disk) refl c.requires.usable refl
-    (λ told. ap (λ n. pending_in n next.marks.items next.buffer.items) c.cancel.ensures.gate ∙ ap (λ (l : List ℕ). pending_in log.next.gate next.marks.items l) c.cancel.ensures.buffer
-    ∙ pending-cancel log.next.gate log.next.marks.items next.marks.items log.next.buffer.items c.cancel.ensures.marks)
+    (λ told. ap (λ n. pending_in (g.D.Disk.seen log.disk) n next.spilled next.buffer.items) c.cancel.ensures.gate ∙ ap (λ b. pending_in (g.D.Disk.seen log.disk) log.next.gate b next.buffer.items) c.cancel.ensures.spilled
+    ∙ waiting-more (g.D.Disk.seen log.disk) log.next.gate log.next.spilled log.next.buffer.items next.buffer.items (closing_record 1 log.next.batch_place) c.cancel.ensures.records)
     (sym next.batch_is ∙ c.cancel.ensures.batch)
     (λ told. record { heads = chains_of log.pages.items; fits = λ i. g.met.D.Disk.are_bytes log.disk i told; stands = log.stands told c.requires.usable; durable = log.durable told c.requires.usable })
+
+pub invariant_of-self-clause-ends : goal.invariant_of-self-clause-ends
+invariant_of-self-clause-ends g c = λ usable.
+    let log = c.args.self.now in
+    all-later (place_of log.next) (place_of c.cancel.new.self) (chains_of log.pages.items) (omega (arith, c.cancel.ensures.gate, c.cancel.ensures.len)) (log.ends usable)
+
+pub invariant_of-self-clause-stood : goal.invariant_of-self-clause-stood
+invariant_of-self-clause-stood g c = λ told usable.
+    let log = c.args.self.now in
+    let seen = g.D.Disk.seen log.disk in
+    subst (λ (l : List Record). IsAmong seen l log.names.gate log.names.at) (sym c.cancel.ensures.records)
+    (among-more seen (records_behind log.next.buffer.items) (closing_record 1 log.next.batch_place) log.names.gate log.names.at (log.stood told usable))
+
+pub invariant_of-self-clause-looked : goal.invariant_of-self-clause-looked
+invariant_of-self-clause-looked g c = λ told usable.
+    let log = c.args.self.now in
+    let seen = g.D.Disk.seen log.disk in
+    subst (λ (l : List Record). IsLooked seen l log.names) (sym c.cancel.ensures.records)
+    (looked-more seen (records_behind log.next.buffer.items) (closing_record 1 log.next.batch_place) log.names refl (log.stood told usable) (log.looked told usable))
+
+pub returns-clause-unnamed : goal.returns-clause-unnamed
+returns-clause-unnamed g c = λ told.
+    let log = c.args.self.now in
+    let seen = g.D.Disk.seen log.disk in
+    moves-marked seen seen log.next c.cancel.new.self log.names log.names (closing_record 1 log.next.batch_place) refl refl c.cancel.ensures.gate c.cancel.ensures.spilled c.cancel.ensures.records (λ place. refl)

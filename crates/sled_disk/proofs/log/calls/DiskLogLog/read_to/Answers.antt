@@ -17,12 +17,13 @@ use Rattle.sled_log.specs.declared.log.LogError.TheVariants.{Memory, Full, ReadF
 use Rattle.sled_disk.specs.declared.head.Head.{Head}
 use Rattle.sled_disk.specs.declared.next_frame.NextFrame.{NextFrame}
 use Rattle.sled_disk.specs.Found.{IsHeadOf}
-use Rattle.sled_disk.specs.Pending.{pending_in, state_in}
+use Rattle.sled_disk.specs.Pending.{state_in}
 use Rattle.sled_disk.specs.Reading.{chains_of}
 use Rattle.sled_disk.specs.Ready.{IsFull}
 use Rattle.sled_disk.proofs.Adding.{same-error}
 use Rattle.sled_disk.proofs.ByPlace.{read-is, known-place, durable-payload, pending-payload, all-at}
-use Rattle.sled_disk.specs.Waiting.{place_of}
+use Rattle.sled_disk.specs.Standing.{records_behind}
+use Rattle.sled_disk.specs.Waiting.{place_of, batch_of}
 use Rattle.sled_disk.proofs.Kept.{found-placed, found-ends}
 use Rattle.sled_disk.proofs.Calling.{called-read, called-unread, rests-same}
 use Rattle.sled_disk.proofs.log.calls.DiskLogLog.read_to.Goals as goal
@@ -35,25 +36,25 @@ returns-clause-found g c = λ told.
     let log = c.args.self.now in
     let head = c.in-Some.head in
     let found = (subst (λ (l : List (Vec Head)). IsHeadOf c.in-Inline.at c.in-Some.head (slice_index_or (chains_of l) c.args.pid [])) c.deref.ensures.value c.in-Some.ensures.some) in
-    let payload = ⊎_elim (λ lt. c.in_ok-payload.ensures.pending lt ∙ pending-payload (g.D.Disk.seen log.disk) log.next.gate log.next.marks.items log.next.buffer.items log.usable (chains_of log.pages.items) (λ i. g.met.D.Disk.are_bytes log.disk i told) (log.stands told c.requires.usable) log.next.are_bytes log.next.front log.next.parsed log.next.counted c.args.pid c.in-Inline.at head found lt)
-    (λ le. c.in_ok-payload.ensures.durable told le ∙ durable-payload (g.D.Disk.seen log.disk) log.next.gate log.next.marks.items log.next.buffer.items log.usable (chains_of log.pages.items) (λ i. g.met.D.Disk.are_bytes log.disk i told) (log.stands told c.requires.usable) log.next.are_bytes log.next.front log.next.parsed log.next.counted c.args.pid c.in-Inline.at head found le) (cases_lt log.next.gate head.place) in
-    subst (λ (pointer : DiskPtr). All (λ entry. IsAt c.args.lsn pointer entry → IsReadAs entry head.kind (payload_in c.payload.new.space c.in_ok-payload.payload)) (slice_index_or (now effect_of_entry (state_in (g.D.Disk.seen log.disk) log.next.gate log.next.marks.items log.next.buffer.items log.usable)) c.args.pid [])) (sym c.in-Inline.is)
-    (read-is (g.D.Disk.seen log.disk) log.next.gate log.next.marks.items log.next.buffer.items log.usable (chains_of log.pages.items) (λ i. g.met.D.Disk.are_bytes log.disk i told) (log.stands told c.requires.usable) log.next.are_bytes log.next.front log.next.parsed log.next.counted c.args.pid c.in-Inline.at head found c.args.lsn head.kind (payload_in c.payload.new.space c.in_ok-payload.payload) refl payload)
+    let payload = ⊎_elim (λ lt. c.in_ok-payload.ensures.pending lt ∙ pending-payload (g.D.Disk.seen log.disk) log.next.gate log.next.spilled log.next.buffer.items log.usable (batch_of log.next) (chains_of log.pages.items) (λ i. g.met.D.Disk.are_bytes log.disk i told) (log.stands told c.requires.usable) log.next.are_bytes log.next.front log.next.parsed log.next.own c.args.pid c.in-Inline.at head found lt)
+    (λ le. c.in_ok-payload.ensures.durable told le ∙ durable-payload (g.D.Disk.seen log.disk) log.next.gate log.next.spilled log.next.buffer.items log.usable (batch_of log.next) (chains_of log.pages.items) (λ i. g.met.D.Disk.are_bytes log.disk i told) (log.stands told c.requires.usable) log.next.are_bytes log.next.front log.next.parsed log.next.own c.args.pid c.in-Inline.at head found le) (cases_lt log.next.gate head.place) in
+    subst (λ (pointer : DiskPtr). All (λ entry. IsAt c.args.lsn pointer entry → IsReadAs entry head.kind (payload_in c.payload.new.space c.in_ok-payload.payload)) (slice_index_or (now effect_of_entry (state_in (g.D.Disk.seen log.disk) log.next.gate log.next.spilled log.next.buffer.items log.usable)) c.args.pid [])) (sym c.in-Inline.is)
+    (read-is (g.D.Disk.seen log.disk) log.next.gate log.next.spilled log.next.buffer.items log.usable (batch_of log.next) (chains_of log.pages.items) (λ i. g.met.D.Disk.are_bytes log.disk i told) (log.stands told c.requires.usable) log.next.are_bytes log.next.front log.next.parsed log.next.own c.args.pid c.in-Inline.at head found c.args.lsn head.kind (payload_in c.payload.new.space c.in_ok-payload.payload) refl payload)
 
 pub returns-clause-called : goal.returns-clause-called
 returns-clause-called g c =
     let log = c.args.self.now in
-    called-read (λ log. log.disk) (λ log. log.next.gate) (λ log. log.next.marks.items) (λ log. log.next.buffer.items) (λ log. log.usable) (λ log. log.reads)
+    called-read (λ log. log.disk) (λ log. log.next.gate) (λ log. log.next.spilled) (λ log. log.next.buffer.items) (λ log. batch_of log.next) (λ log. log.usable) (λ log. log.reads)
     g.D.Disk.tells g.D.Disk.seen g.D.Disk.may_leave g.D.Disk.moment g.D.Disk.left_since g.D.Disk.counts (λ disk left told was. g.met.D.Disk.only_now disk left told was)
-    log c.payload.new.self _ c.payload.ensures.usable (ap (λ (next : NextFrame). pending_in next.gate next.marks.items next.buffer.items) c.payload.ensures.next) (c.payload.ensures.reads ∙ c.count.ensures) c.payload.ensures.rests
+    log c.payload.new.self _ c.payload.ensures.usable (record { gate = ap (λ (next : NextFrame). next.gate) c.payload.ensures.next; spilled = ap (λ (next : NextFrame). next.spilled) c.payload.ensures.next; records = ap (λ (next : NextFrame). records_behind next.buffer.items) c.payload.ensures.next }) (c.payload.ensures.reads ∙ c.count.ensures) c.payload.ensures.rests
     (λ told. record { heads = chains_of log.pages.items; fits = λ i. g.met.D.Disk.are_bytes log.disk i told; stands = log.stands told c.requires.usable; durable = log.durable told c.requires.usable })
     c.payload.ensures.faults.failed_reads c.payload.ensures.faults.write_faults (c.in-Some.head.kind, c.in_ok-payload.payload)
 
 pub returns-clause-room : goal.returns-clause-room
-returns-clause-room g c = λ n full. subst (λ (next : NextFrame). IsFull next.gate next.buffer.items n) c.payload.ensures.next full
+returns-clause-room g c = λ n full. subst (λ (next : NextFrame). IsFull next.gate next.buffer.items next.batch n) c.payload.ensures.next full
 
 pub returns-in_err-payload-clause-room : goal.returns-in_err-payload-clause-room
-returns-in_err-payload-clause-room g c = λ n full. subst (λ (next : NextFrame). IsFull next.gate next.buffer.items n) c.payload.ensures.next full
+returns-in_err-payload-clause-room g c = λ n full. subst (λ (next : NextFrame). IsFull next.gate next.buffer.items next.batch n) c.payload.ensures.next full
 
 pub payload-requires : goal.payload-requires
 payload-requires g c =
@@ -110,9 +111,9 @@ returns-in_err-payload-clause-called g c =
     let head = c.in-Some.head in
     let p = err_from_is_err_and c.from_residual.result c.from_residual.ensures.1 in
     rw p.1 (rw p.2
-    (called-unread (λ log. log.disk) (λ log. log.next.gate) (λ log. log.next.marks.items) (λ log. log.next.buffer.items) (λ log. log.usable) (λ log. log.reads)
+    (called-unread (λ log. log.disk) (λ log. log.next.gate) (λ log. log.next.spilled) (λ log. log.next.buffer.items) (λ log. batch_of log.next) (λ log. log.usable) (λ log. log.reads)
     g.D.Disk.tells g.D.Disk.seen g.D.Disk.may_leave g.D.Disk.moment g.D.Disk.left_since g.D.Disk.counts (λ disk left told was. g.met.D.Disk.only_now disk left told was)
-    log c.payload.new.self _ c.payload.ensures.usable (ap (λ (next : NextFrame). pending_in next.gate next.marks.items next.buffer.items) c.payload.ensures.next) (c.payload.ensures.reads ∙ c.count.ensures) c.payload.ensures.rests
+    log c.payload.new.self _ c.payload.ensures.usable (record { gate = ap (λ (next : NextFrame). next.gate) c.payload.ensures.next; spilled = ap (λ (next : NextFrame). next.spilled) c.payload.ensures.next; records = ap (λ (next : NextFrame). records_behind next.buffer.items) c.payload.ensures.next }) (c.payload.ensures.reads ∙ c.count.ensures) c.payload.ensures.rests
     (λ told. record { heads = chains_of log.pages.items; fits = λ i. g.met.D.Disk.are_bytes log.disk i told; stands = log.stands told c.requires.usable; durable = log.durable told c.requires.usable })
     c.payload.ensures.faults.failed_reads c.payload.ensures.faults.write_faults _ c.in_err-payload.field-0.0 (⊎_elim (λ m. inl m) (λ f. inr (inl f)) c.in_err-payload.ensures.only)
     (λ told. (no-other c.in_err-payload.field-0.0 c.in_err-payload.ensures.only).1)
@@ -121,24 +122,24 @@ returns-in_err-payload-clause-called g c =
 pub returns-in_default-clause-called : goal.returns-in_default-clause-called
 returns-in_default-clause-called g c =
     let log = c.args.self.now in
-    called-unread (λ log. log.disk) (λ log. log.next.gate) (λ log. log.next.marks.items) (λ log. log.next.buffer.items) (λ log. log.usable) (λ log. log.reads)
+    called-unread (λ log. log.disk) (λ log. log.next.gate) (λ log. log.next.spilled) (λ log. log.next.buffer.items) (λ log. batch_of log.next) (λ log. log.usable) (λ log. log.reads)
     g.D.Disk.tells g.D.Disk.seen g.D.Disk.may_leave g.D.Disk.moment g.D.Disk.left_since g.D.Disk.counts (λ disk left told was. g.met.D.Disk.only_now disk left told was)
-    log _ _ c.requires.usable refl c.count.ensures (rests-same g.D.Disk.seen g.D.Disk.may_leave g.D.Disk.moment g.D.Disk.left_since g.D.Disk.tells log.disk)
+    log _ _ c.requires.usable (record { gate = refl; spilled = refl; records = refl }) c.count.ensures (rests-same g.D.Disk.seen g.D.Disk.may_leave g.D.Disk.moment g.D.Disk.left_since g.D.Disk.tells log.disk)
     (λ told. record { heads = chains_of log.pages.items; fits = λ i. g.met.D.Disk.are_bytes log.disk i told; stands = log.stands told c.requires.usable; durable = log.durable told c.requires.usable })
     (omega arith) (omega arith) _ Corruption (inr (inr refl))
-    (λ told is. let k = known-place (g.D.Disk.seen log.disk) log.next.gate log.next.marks.items log.next.buffer.items log.usable (chains_of log.pages.items) (λ i. g.met.D.Disk.are_bytes log.disk i told) (log.stands told c.requires.usable) log.next.are_bytes log.next.front log.next.parsed log.next.counted c.args.pid c.args.lsn c.args.pointer no_head (c.requires.known told) in absurd (c.in_default.not-Inline _ k.2))
+    (λ told is. let k = known-place (g.D.Disk.seen log.disk) log.next.gate log.next.spilled log.next.buffer.items log.usable (batch_of log.next) (chains_of log.pages.items) (λ i. g.met.D.Disk.are_bytes log.disk i told) (log.stands told c.requires.usable) log.next.are_bytes log.next.front log.next.parsed log.next.own c.args.pid c.args.lsn c.args.pointer no_head (c.requires.known told) in absurd (c.in_default.not-Inline _ k.2))
     (λ is. cc)
 
 pub returns-in_default-find-clause-called : goal.returns-in_default-find-clause-called
 returns-in_default-find-clause-called g c =
     let log = c.args.self.now in
-    called-unread (λ log. log.disk) (λ log. log.next.gate) (λ log. log.next.marks.items) (λ log. log.next.buffer.items) (λ log. log.usable) (λ log. log.reads)
+    called-unread (λ log. log.disk) (λ log. log.next.gate) (λ log. log.next.spilled) (λ log. log.next.buffer.items) (λ log. batch_of log.next) (λ log. log.usable) (λ log. log.reads)
     g.D.Disk.tells g.D.Disk.seen g.D.Disk.may_leave g.D.Disk.moment g.D.Disk.left_since g.D.Disk.counts (λ disk left told was. g.met.D.Disk.only_now disk left told was)
-    log _ _ c.requires.usable refl c.count.ensures (rests-same g.D.Disk.seen g.D.Disk.may_leave g.D.Disk.moment g.D.Disk.left_since g.D.Disk.tells log.disk)
+    log _ _ c.requires.usable (record { gate = refl; spilled = refl; records = refl }) c.count.ensures (rests-same g.D.Disk.seen g.D.Disk.may_leave g.D.Disk.moment g.D.Disk.left_since g.D.Disk.tells log.disk)
     (λ told. record { heads = chains_of log.pages.items; fits = λ i. g.met.D.Disk.are_bytes log.disk i told; stands = log.stands told c.requires.usable; durable = log.durable told c.requires.usable })
     (omega arith) (omega arith) _ Corruption (inr (inr refl))
     (λ told is.
-    let k = known-place (g.D.Disk.seen log.disk) log.next.gate log.next.marks.items log.next.buffer.items log.usable (chains_of log.pages.items) (λ i. g.met.D.Disk.are_bytes log.disk i told) (log.stands told c.requires.usable) log.next.are_bytes log.next.front log.next.parsed log.next.counted c.args.pid c.args.lsn c.args.pointer no_head (c.requires.known told) in
+    let k = known-place (g.D.Disk.seen log.disk) log.next.gate log.next.spilled log.next.buffer.items log.usable (batch_of log.next) (chains_of log.pages.items) (λ i. g.met.D.Disk.are_bytes log.disk i told) (log.stands told c.requires.usable) log.next.are_bytes log.next.front log.next.parsed log.next.own c.args.pid c.args.lsn c.args.pointer no_head (c.requires.known told) in
     let none = subst (λ (l : List (Vec Head)). AllByRecursion (λ head. head.place ≢ c.in-Inline.at) (slice_index_or (chains_of l) c.args.pid [])) c.deref.ensures.value c.in_default-find.ensures.none in
     let same : Inline c.in-Inline.at ≡ _ = sym c.in-Inline.is ∙ k.2 in
     all-at (λ head. head.place ≢ c.in-Inline.at) (slice_index_or (chains_of log.pages.items) c.args.pid []) k.0 no_head k.1 none (sym (ap offset_of same)))

@@ -1,17 +1,19 @@
-use Rattle.std.proofs.Common.{◌+◌, ◌++◌, List, [], sym, subst}
+use Rattle.std.proofs.Common.{List, [], sym, subst}
 use Rattle.std.specs.Prelude.{Result, Ok, Err, OnOk}
 use Rattle.std.specs.List.{AllZip, AllByRecursion}
 use Rattle.std.proofs.lemmas.Result.{IfOk-weaker}
+use Rattle.sled_log.specs.Chains.{chains_after}
 use Rattle.sled_log.specs.Messages.{Chain, effect_of_entry}
 use Rattle.sled_log.specs.Pages.{IsPageState}
-use Rattle.sled_log.specs.Inside.ShapeLaws.{AreChains, chains-are}
+use Rattle.sled_log.specs.Inside.ShapeLaws.{chains-are}
 use Rattle.std.specs.Global.{Vec}
 use Rattle.sled_disk.specs.declared.head.Head.{Head}
 use Rattle.sled_disk.specs.Opened.{AreHeads, IsShown}
-use Rattle.sled_disk.specs.Format.{events_at, entry_at}
 use Rattle.sled_disk.specs.Reading.{chains_of}
-use Rattle.sled_disk.specs.Standing.{records_behind, events_in}
-use Rattle.sled_disk.proofs.Adding.{now-is, heads-now, bytes}
+use Rattle.sled_disk.specs.Pending.{room_after}
+use Rattle.sled_disk.specs.Standing.{events_in}
+use Rattle.sled_disk.specs.Waiting.{pending_of, batch_of}
+use Rattle.sled_disk.proofs.Adding.{heads-now, bytes}
 use Rattle.sled_disk.proofs.Calling.{called-nothing}
 use Rattle.sled_disk.proofs.Shown.{pages-in}
 use Rattle.sled_disk.proofs.Sized.{stands-sized, waits-small}
@@ -25,7 +27,7 @@ pub returns-clause-called : goal.returns-clause-called
 returns-clause-called g c =
     let log = c.args.self.now in
     let next = log.next in
-    called-nothing (λ log. log.disk) (λ log. log.next.gate) (λ log. log.next.marks.items) (λ log. log.next.buffer.items) (λ log. log.usable) (λ log. log.reads)
+    called-nothing (λ log. log.disk) (λ log. log.next.gate) (λ log. log.next.spilled) (λ log. log.next.buffer.items) (λ log. batch_of log.next) (λ log. log.usable) (λ log. log.reads)
     g.D.Disk.tells g.D.Disk.seen g.D.Disk.may_leave g.D.Disk.moment g.D.Disk.left_since g.D.Disk.counts (λ disk left told was. g.met.D.Disk.only_now disk left told was)
     log c.pages_of.result c.pages_of.ensures.only
     (λ told is. c.pages_of.ensures.sound (subst (λ (l : List (Vec Head)). AllByRecursion AreHeads (chains_of l)) (sym c.deref.ensures.value) log.heads) is)
@@ -37,15 +39,15 @@ returns-clause-sized g c = λ told.
     let log = c.args.self.now in
     let next = log.next in
     if_any c.pages_of.result
-    (stands-sized (g.D.Disk.seen log.disk) next.gate next.marks.items next.buffer.items log.usable (chains_of log.pages.items) (λ i. g.met.D.Disk.are_bytes log.disk i told) (log.stands told c.requires.usable) next.counted
-    (waits-small next.gate next.buffer.items next.are_bytes next.front next.parsed next.small next.fits))
+    (stands-sized (g.D.Disk.seen log.disk) next.gate next.spilled next.buffer.items log.usable (batch_of next) (chains_of log.pages.items) (λ i. g.met.D.Disk.are_bytes log.disk i told) (log.stands told c.requires.usable) next.own
+    (waits-small next.gate (room_after next.batch) next.buffer.items next.are_bytes next.front next.parsed next.small next.fits))
 
 pub returns-clause-chains : goal.returns-clause-chains
 returns-clause-chains g c = λ told.
     let log = c.args.self.now in
     let next = log.next in
     if_any c.pages_of.result
-    (subst (λ (l : List Chain). AreChains effect_of_entry l) (sym (now-is (g.D.Disk.seen log.disk) next.gate next.marks.items next.buffer.items log.usable next.counted)) (chains-are effect_of_entry [] (events_in (g.D.Disk.seen log.disk) ++ events_at entry_at (next.gate + 9) (records_behind next.buffer.items)) tt))
+    (let seen = g.D.Disk.seen log.disk in chains-are effect_of_entry (chains_after effect_of_entry [] (events_in seen)) (pending_of seen next) (chains-are effect_of_entry [] (events_in seen) tt))
 
 pub returns-clause-pages : goal.returns-clause-pages
 returns-clause-pages g c = λ told.
@@ -53,6 +55,6 @@ returns-clause-pages g c = λ told.
     let next = log.next in
     let seen = g.D.Disk.seen log.disk in
     let heads = chains_of log.pages.items in
-    let all = bytes seen next.gate next.buffer.items heads (λ i. g.met.D.Disk.are_bytes log.disk i told) (log.stands told c.requires.usable) in
-    let is = heads-now seen next.gate next.buffer.items heads (λ i. g.met.D.Disk.are_bytes log.disk i told) (log.stands told c.requires.usable) next.marks.items log.usable next.counted in
+    let all = bytes seen next.gate next.spilled next.buffer.items (batch_of next) heads (λ i. g.met.D.Disk.are_bytes log.disk i told) (log.stands told c.requires.usable) in
+    let is = heads-now seen next.gate next.spilled next.buffer.items (batch_of next) heads (λ i. g.met.D.Disk.are_bytes log.disk i told) (log.stands told c.requires.usable) log.usable next.own in
     IfOk-weaker c.pages_of.result _ _ (λ pages shown. subst (λ (l : List Chain). AllZip IsPageState l pages.items) is (pages-in all heads pages.items (subst (λ (l : List (Vec Head)). AllZip IsShown (chains_of l) pages.items) c.deref.ensures.value shown))) c.pages_of.ensures.shown
