@@ -8,9 +8,9 @@ use Rattle.std.specs.declared.cmp.Ordering.TheVariants.{Less, Equal, Greater}
 use Rattle.std.specs.Ordering.{is_lt, is_le}
 use Rattle.std.specs.Cmp.Lexicographic.{pointwise, nat_list_eq_equiv}
 use Rattle.std.proofs.lemmas.Bool.{cases_lt}
-use Rattle.std.proofs.lemmas.List.{get_or-map, length-map}
+use Rattle.std.proofs.lemmas.List.{get_or-map, length-map, map-id}
 use Rattle.sled_base.specs.Order.{Bytes, bytes_cmp, is_below, IsBelow, IsAtMost}
-use Rattle.sled_base.specs.OrderLaws.{not_below_itself, above_is_below, below_is_above, at_most_trans, below_or_same, at_most_below_trans}
+use Rattle.sled_base.specs.OrderLaws.{not_below_itself, above_is_below, below_is_above, below_is_at_most, at_most_trans, below_or_same, at_most_below_trans}
 use Rattle.sled_base.specs.Searches.{IsSorted, IsCountAtMost, IsLastEqual, count_below}
 
 -- what a test says of an order
@@ -102,7 +102,7 @@ module _ {X : Type 0} (f : X → Bytes) (key : Bytes) (xs : List X) where
 
 module _ (key : Bytes) where
   -- the last of the keys that aren't above the key is the key
-  last_is_key : (keys : List Bytes) (i : ℕ) → i + 1 ≤ length keys → IsCountAtMost key keys (i + 1) → HoldsAt (λ other. other ≡ key) keys i → IsLastEqual key keys i
+  pub last_is_key : (keys : List Bytes) (i : ℕ) → i + 1 ≤ length keys → IsCountAtMost key keys (i + 1) → HoldsAt (λ other. other ≡ key) keys i → IsLastEqual key keys i
   last_is_key keys i lt parted here = record {
     within = omega arith;
     here = here;
@@ -153,3 +153,27 @@ pub missing_there : {X : Type 0} (f : X → Bytes) (key : Bytes) (xs : List X) (
 missing_there f key xs n i x sorted le parted next is other =
     let place : i ≡ n - 1 = omega arith in
     no_key key (map f xs) n sorted (rw length-map le) parted (λ some d same. other (sym (key_at f xs i x d is (omega arith)) ∙ ap (λ k. get_or (map f xs) k d) place ∙ same))
+
+-- ---- a search by halving, one step
+
+below_at_most_trans : (a b c : Bytes) → IsBelow a b → IsAtMost b c → IsBelow a c
+below_at_most_trans a b c lt le = below_or_same a c (at_most_trans a b c (below_is_at_most a b lt) le) (λ same. le (subst (λ x. IsBelow x b) same lt))
+
+module _ (key : Bytes) (keys : List Bytes) (middle : ℕ) (found : Bytes) (sorted : IsSorted keys) (within : middle < length keys) (is : (d : Bytes) → get_or keys middle d ≡ found) where
+  -- the key in the middle isn't above the key, so none before it is
+  pub front_at_most : is_le (bytes_cmp found key) ≡ true → AllWithin (λ other. IsAtMost other key) keys 0 (middle + 1)
+  front_at_most pass k d from to =
+      let order : IsAtMost (get_or keys k d) found = subst (λ other. IsAtMost (get_or keys k d) other) (is d) (sorted_at keys k middle d sorted (omega arith) within) in
+      at_most_trans (get_or keys k d) found key order (λ above. not_greater (bytes_cmp found key) pass (below_is_above key found above))
+
+  -- it is above, so each behind it is
+  pub back_above : is_le (bytes_cmp found key) ≡ false → AllWithin (λ other. IsBelow key other) keys middle (length keys)
+  back_above fail k d from to =
+      let order : IsAtMost found (get_or keys k d) = subst (λ other. IsAtMost other (get_or keys k d)) (is d) (sorted_at keys middle k d sorted from to) in
+      below_at_most_trans key found (get_or keys k d) (above_is_below found key (test_gt (bytes_cmp found key) fail)) order
+
+-- ---- a test of each key and the next
+
+-- what it answers is whether the keys are sorted
+pub sorted_by_pairs : (keys : List Bytes) (r : Bool) → IsAllAdjacentAnswer (λ x y b. b ≡ is_le (bytes_cmp x y)) keys r → IsTrue r ↔ IsSorted keys
+sorted_by_pairs keys r answer = subst (λ ks. IsTrue r ↔ IsSorted ks) (map-id keys) (sorted_by_test (λ key. key) keys r answer)

@@ -17,3 +17,5 @@ pub mod Cells
 pub mod Lru
 pub mod LruLaws
 pub mod Shards
+pub mod Strings
+pub mod StringLaws

@@ -7,6 +7,7 @@
 //! - `kept`, `ivec`: byte strings, in place where they are short, and shared where they are long
 //! - `search`, `prefix`: searches in sorted keys, and keys without the prefix that they share
 //! - `serialization`: payloads: values as bytes, and back
+//! - `moves`, `strings`: bytes that move up or down in a buffer, and byte strings in one
 //! - `growth`: how a vector grows that is to leave little memory unused
 //! - `dll`: a doubly linked list of page ids
 //! - `lru`: pages by their recent use, and which of them leave where they exceed a capacity together
@@ -20,9 +21,11 @@ mod kept;
 pub mod kinds;
 pub mod laws;
 pub mod lru;
+mod moves;
 pub mod prefix;
 pub mod search;
 pub mod serialization;
+pub mod strings;
 pub mod types;
 
 pub use dll::{DoublyLinkedList, Slot};

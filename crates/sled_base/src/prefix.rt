@@ -1,12 +1,13 @@
 //! Keys without the prefix that they share, and searches in sorted slices of keys.
 
-ghost use Rattle.std.specs.Prelude.{◌≡◌, ◌≢◌, ◌+◌, ◌≤◌, ◌++◌, [], length, drop, All, IfOk, IfErr, IfSome, IfNone, IsOk, OnErr};
+ghost use Rattle.std.specs.Prelude.{◌≡◌, ◌≢◌, ◌↔◌, ◌+◌, ◌≤◌, ◌++◌, [], length, take, drop, All, IsTrue, IfOk, IfErr, IfSome, IfNone, IsOk, OnErr};
 ghost use Rattle.sled_base.specs.Limits.{inline_limit};
 ghost use Rattle.sled_base.specs.Order.{bytes_cmp, IsBelow};
-ghost use Rattle.sled_base.specs.Searches.{IsSorted, IsLastAtMost, IsLastEqual, count_below};
+ghost use Rattle.sled_base.specs.Searches.{IsSorted, IsCountAtMost, IsLastAtMost, IsLastEqual, count_below};
 
 use crate::ivec::{CUTOFF, IVec};
 use crate::search::{last_at_most, last_equal};
+use crate::strings::Strings;
 use std::alloc::{AllocError, Global};
 use std::cmp::Ordering;
 
@@ -87,4 +88,56 @@ pub fn binary_search_lub(key: &[u8], s: &[IVec]) -> Option<usize>
     ensures none { IfNone result (All (IsBelow key.now) s.now) }
 {
     last_at_most(key, s)
+}
+
+/// [`binary_search`] among the first `count` of the strings in one buffer, which holds at least so many.
+///
+/// They have to ascend, as [`spans_are_sorted`] tests, and there may be doubles. It allocates nothing.
+pub fn search_spans(key: &[u8], strings: &Strings, count: usize) -> Result<usize, usize>
+    requires within { count ≤ length strings.now }
+    requires sorted { IsSorted (take count strings.now) }
+    ensures found { IfOk result (IsLastEqual key.now (take count strings.now)) }
+    ensures missing { OnErr result (All (λ item. item ≢ key.now) (take count strings.now)) }
+    ensures below { IfErr result (λ n. n ≡ count_below key.now (take count strings.now)) }
+{
+    let most = count_up_to(key, strings, count);
+    match most.checked_sub(1) {
+        Some(last) if strings.get(last) == key => Ok(last),
+        _ => Err(most),
+    }
+}
+
+/// Whether the first `count` of the strings in one buffer, which holds at least so many, ascend. There may be doubles.
+///
+/// It compares each string with the next, and allocates nothing.
+pub fn spans_are_sorted(strings: &Strings, count: usize) -> bool
+    requires { count ≤ length strings.now }
+    ensures { IsTrue result ↔ IsSorted (take count strings.now) }
+{
+    for i in 1..count {
+        if !fastcmp(strings.get(i - 1), strings.get(i)).is_le() {
+            return false;
+        }
+    }
+    true
+}
+
+// How many of the first strings aren't above the key, found by halving.
+fn count_up_to(key: &[u8], strings: &Strings, count: usize) -> usize
+    requires within { count ≤ length strings.now }
+    requires sorted { IsSorted (take count strings.now) }
+    ensures bound { result ≤ count }
+    ensures parted { IsCountAtMost key.now (take count strings.now) result }
+{
+    let mut low = 0;
+    let mut high = count;
+    while low < high {
+        let middle = low + (high - low) / 2;
+        if fastcmp(strings.get(middle), key).is_le() {
+            low = middle + 1;
+        } else {
+            high = middle;
+        }
+    }
+    low
 }

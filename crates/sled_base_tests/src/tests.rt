@@ -4,6 +4,8 @@ mod plain;
 mod prefix;
 mod search;
 mod serialization;
+mod spans;
+mod strings;
 mod writes;
 
 use sled_base::{BatchManifest, Bug, Device, DiskPtr, Error, IVec, Lsn, PageState, Refusal, Why};

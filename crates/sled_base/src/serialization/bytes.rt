@@ -1,6 +1,6 @@
 //! Byte strings.
 
-ghost use Rattle.std.specs.Prelude.{◌≡◌, IfSome, IfNone};
+ghost use Rattle.std.specs.Prelude.{◌≡◌, ◌≤◌, ◌++◌, length, drop, IfSome, IfNone};
 ghost use Rattle.sled_base.specs.Payloads.Reading.{ReadsNoValue};
 ghost use Rattle.sled_base.specs.Payloads.ByteStrings.{ReadsBytes, AsksBytes, written_bytes, CanWriteBytes};
 ghost use Rattle.sled_base.specs.Payloads.ByteStringLaws.{Bytes-grammar};
@@ -24,6 +24,19 @@ pub fn split_bytes(bytes: &[u8]) -> Option<(&[u8], &[u8])>
     Some(rest.split_at(len as usize))
 }
 
+/// Writes a byte string at the front, where there is room for it, and answers how many bytes it took.
+pub fn write_bytes(bytes: &[u8], out: &mut [u8]) -> usize
+    requires can_write { CanWriteBytes bytes.now }
+    requires room { length (written_bytes bytes.now) ≤ length out.old }
+    ensures size { result ≡ length (written_bytes bytes.now) }
+    ensures bytes { out.new ≡ written_bytes bytes.now ++ drop (length (written_bytes bytes.now)) out.old }
+{
+    let start = (bytes.len() as u64).serialize_into(out);
+    let end = start + bytes.len();
+    out[start..end].copy_from_slice(bytes);
+    end
+}
+
 impl Serialize for IVec {
     ghost reads = { ReadsBytes };
 
@@ -45,11 +58,7 @@ impl Serialize for IVec {
     }
 
     fn serialize_into(&self, out: &mut [u8]) -> usize {
-        let bytes = self.as_slice();
-        let start = (bytes.len() as u64).serialize_into(out);
-        let end = start + bytes.len();
-        out[start..end].copy_from_slice(bytes);
-        end
+        write_bytes(self.as_slice(), out)
     }
 
     fn deserialize(alloc: Global, input: &mut &[u8]) -> Result<IVec, Error> {

@@ -1,0 +1,15 @@
+use Rattle.std.proofs.Common.{arith}
+use Rattle.sled_base.specs.StringLaws.{strings_count}
+use Rattle.sled_base.proofs.StringEdits.{kept_after, strings_after}
+use Rattle.sled_base.proofs.strings.Strings.replace.Goals as goal
+
+pub replace-requires-clause-within : goal.replace-requires-clause-within
+replace-requires-clause-within c =
+    let within = rw (← c.self.view_is) at c.requires.within in
+    omega (arith, within, strings_count 0 c.self.inside.bytes.items c.self.inside.ends.items)
+
+pub invariant_of-self : goal.invariant_of-self
+invariant_of-self c = kept_after _ c.self.inside.bytes.items c.self.inside.ends.items _ _ c.replace.result c.self.invariant c.replace.ensures.ok c.replace.ensures.err
+
+pub returns-clause-ok : goal.returns-clause-ok
+returns-clause-ok c = rw (← c.self.view_is) (strings_after _ c.self.inside.bytes.items c.self.inside.ends.items _ _ c.replace.result c.replace.ensures.ok)
