@@ -23,3 +23,5 @@ pub mod Restoring
 pub mod Receiving
 pub mod SplitPairs
 pub mod SplitStored
+mod LeafStrings
+mod LeafPayloads

@@ -1,21 +1,18 @@
 -- The pairs on either side of a whole key, and the nearest of them.
-use Rattle.std.proofs.Common.{◌≡◌, ◌≢◌, ℕ, zero, suc, ◌+◌, ◌-◌, ◌<◌, ◌≤◌, Bool, true, false, cond, List, [], ◌∷◌, ◌++◌, length, get_or, take, drop, refl, sym, ap, subst, ◌∙◌, arith}
+use Rattle.std.proofs.Common.{◌≡◌, ◌≢◌, ℕ, zero, suc, ◌+◌, ◌<◌, Bool, true, false, cond, List, [], ◌∷◌, ◌++◌, length, get_or, take, drop, refl, sym, subst, arith}
 use Rattle.std.specs.Prelude.{filter, slice_get, Some}
 use Rattle.std.specs.List.{AllByRecursion, HoldsAt}
 use Rattle.std.specs.Ordering.{is_lt}
 use Rattle.std.specs.declared.cmp.Ordering.{Ordering}
 use Rattle.std.specs.declared.cmp.Ordering.TheVariants.{Less, Equal, Greater}
-use Rattle.std.proofs.lemmas.List.{take-append-drop, length-take-le}
-use Rattle.std.proofs.lemmas.Option.{get_or_from_slice_get, slice_get_within}
+use Rattle.std.proofs.lemmas.List.{take-append-drop}
+use Rattle.std.proofs.lemmas.Option.{get_or_from_slice_get}
 use Rattle.std.proofs.Math.Numerals.{add-one}
 use Rattle.sled_base.specs.Order.{Bytes, bytes_cmp, is_below, IsBelow, IsAtMost}
 use Rattle.sled_base.specs.OrderLaws.{below_trans, not_below_itself}
-use Rattle.sled_node.specs.Node.{Item, Value, Child, WholeNode, whole, IsWellFormed}
+use Rattle.sled_node.specs.Node.{Item, Value, Child, WholeNode}
 use Rattle.sled_node.specs.Pairs.{IsAscending, pairs_below, pairs_above, StandsAt, IsGap}
-use Rattle.sled_node.specs.declared.node.data.Data.TheVariants.{Leaf}
-use Rattle.sled_node.specs.Parts.{pairs_under}
 use Rattle.sled_node.specs.Neighbours.{IsCount, IsLeast, IsGreatest}
-use Rattle.sled_node.proofs.StoredPairs.{whole_at}
 use Rattle.sled_node.proofs.Places.{all_so}
 use Rattle.sled_node.proofs.Ascending.{all_at, all_at_front, all_more}
 
@@ -141,41 +138,16 @@ module _ (IsSuch : Bytes → Type 0) where
     here : get_or n.pairs i held ≡ held
     here = get_or_from_slice_get n.pairs i held held is
 
-    is_least : IsCount (λ key. IsSuch key → ⊥) IsSuch n.pairs i → IsLeast IsSuch n pair
+    pub is_least : IsCount (λ key. IsSuch key → ⊥) IsSuch n.pairs i → IsLeast IsSuch n pair
     is_least count = record {
       there = (i, lt, here);
       such = subst (λ (other : Bytes × Item). IsSuch other.0) here (first_of_rest (λ other. IsSuch other.0) n.pairs i held lt count.back);
       least = subst (λ (this : Bytes × Item). AllByRecursion (λ other. IsSuch other.0 → IsAtMost this.0 other.0) n.pairs) here (least_there n.pairs i held ascending lt count.front);
     }
 
-    is_greatest : IsCount IsSuch (λ key. IsSuch key → ⊥) n.pairs (suc i) → IsGreatest IsSuch n pair
+    pub is_greatest : IsCount IsSuch (λ key. IsSuch key → ⊥) n.pairs (suc i) → IsGreatest IsSuch n pair
     is_greatest count = record {
       there = (i, lt, here);
       such = subst (λ (other : Bytes × Item). IsSuch other.0) here (all_at_front (λ other. IsSuch other.0) n.pairs i held count.front lt);
       greatest = subst (λ (this : Bytes × Item). AllByRecursion (λ other. IsSuch other.0 → IsAtMost other.0 this.0) n.pairs) here (greatest_there n.pairs i held ascending lt count.back);
     }
-
--- ---- a leaf's
-
-slice_get-take : {X : Type 0} (xs : List X) (i : ℕ) → slice_get (take (suc i) xs) i ≡ slice_get xs i
-slice_get-take [] i = refl
-slice_get-take (x ∷ xs) zero = refl
-slice_get-take (x ∷ xs) (suc i) = slice_get-take xs i
-
--- the last of the first ones
-pub last_of_first : {X : Type 0} (xs : List X) (end : ℕ) (x : X) → end ≤ length xs → Some x ≡ slice_get (take end xs) (length (take end xs) - 1) → (i : ℕ) × (suc i ≡ end) × (slice_get xs i ≡ Some x)
-last_of_first xs zero x le is = absurd cc
-last_of_first xs (suc i) x le is =
-    let last : length (take (suc i) xs) - 1 ≡ i = omega (arith, length-take-le (suc i) xs le) in
-    (i, refl, sym (is ∙ ap (slice_get (take (suc i) xs)) last ∙ slice_get-take xs i))
-
--- a leaf's stored pair at place i, with its whole key
-module _ (IsSuch : Bytes → Type 0) (n : WholeNode) (stored : List (Bytes × Bytes)) (i : ℕ) (pair copy : Bytes × Bytes) (formed : IsWellFormed n) (are : n.pairs ≡ pairs_under (take n.prefix_len n.lo) (Leaf stored)) (at : slice_get stored i ≡ Some pair) (key : copy.0 ≡ whole n pair.0) (value : copy.1 ≡ pair.1) where
-  held_copy : slice_get n.pairs i ≡ Some (copy.0, Value copy.1)
-  held_copy = whole_at n stored i pair are at ∙ ap (λ k. Some (k, Value pair.1)) (sym key) ∙ ap (λ v. Some (copy.0, Value v)) (sym value)
-
-  pub stored_least : IsCount (λ k. IsSuch k → ⊥) IsSuch n.pairs i → IsLeast IsSuch n copy
-  stored_least = is_least IsSuch n i copy formed.ascending (slice_get_within n.pairs i (copy.0, Value copy.1) held_copy) held_copy
-
-  pub stored_greatest : IsCount IsSuch (λ k. IsSuch k → ⊥) n.pairs (suc i) → IsGreatest IsSuch n copy
-  stored_greatest = is_greatest IsSuch n i copy formed.ascending (slice_get_within n.pairs i (copy.0, Value copy.1) held_copy) held_copy

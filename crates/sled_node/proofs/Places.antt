@@ -61,12 +61,12 @@ module _ {V : Type 0} (key : Bytes) where
       (filter_all (λ pair. is_below pair.0 key) pairs (all_so (λ pair lt. is_below_true pair.0 key lt) pairs h), filter_none (λ pair. is_below key pair.0) pairs (all_so (λ pair lt. is_below_false pair.0 key lt) pairs h))
 
   -- the first pair is below
-  past : (pair : Bytes × V) (pairs : List (Bytes × V)) → IsBelow pair.0 key → (pairs_below key (pair ∷ pairs) ≡ pair ∷ pairs_below key pairs) × (pairs_above key (pair ∷ pairs) ≡ pairs_above key pairs)
+  pub past : (pair : Bytes × V) (pairs : List (Bytes × V)) → IsBelow pair.0 key → (pairs_below key (pair ∷ pairs) ≡ pair ∷ pairs_below key pairs) × (pairs_above key (pair ∷ pairs) ≡ pairs_above key pairs)
   past pair pairs lt =
       (ap (λ b. cond b (pair ∷ pairs_below key pairs) (pairs_below key pairs)) (is_below_true pair.0 key lt), ap (λ b. cond b (pair ∷ pairs_above key pairs) (pairs_above key pairs)) (is_below_false pair.0 key lt))
 
   -- the pair at place i has the key
-  stands : (pairs : List (Bytes × V)) (i : ℕ) → IsAscending pairs → i < length pairs → HoldsAt (λ pair. pair.0 ≡ key) pairs i → StandsAt pairs key i
+  pub stands : (pairs : List (Bytes × V)) (i : ℕ) → IsAscending pairs → i < length pairs → HoldsAt (λ pair. pair.0 ≡ key) pairs i → StandsAt pairs key i
   stands [] i ascending lt same = absurd (omega arith)
   stands (pair ∷ pairs) zero ascending lt same =
       let this = same pair in

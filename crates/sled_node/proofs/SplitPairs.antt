@@ -8,7 +8,7 @@ use Rattle.sled_base.specs.Order.{Bytes, IsBelow, IsAtMost}
 use Rattle.sled_base.specs.OrderLaws.{below_trans, under_one_front}
 use Rattle.sled_node.specs.Pairs.{IsWithinLimit, IsAscending}
 use Rattle.sled_node.specs.Node.{Item, WholeNode, whole, IsInRange, IsWellFormed, ItemFits}
-use Rattle.sled_node.specs.Splitting.{common_length, own_prefix, IsSeparator, least, greatest, Separates, SeparatesAt, Splits, MergeBack}
+use Rattle.sled_node.specs.Splitting.{common_length, own_prefix, IsSeparator, least, greatest, Separates, SeparatesAt, SplitsBehind, MergeBack}
 use Rattle.sled_node.proofs.Prefixes.{not_below_empty}
 use Rattle.sled_node.proofs.Separators.{most_below, below_is_most, most_itself, cut_key, cut_under, cut_separates, shared_within}
 use Rattle.sled_node.proofs.Restoring.{all_parts}
@@ -143,15 +143,12 @@ left_part count s n = record { prefix_len = own_prefix n.lo s; lo = n.lo; hi = s
 abbrev pub right_part : ℕ → Bytes → WholeNode → WholeNode
 right_part count s n = record { prefix_len = own_prefix s n.hi; lo = s; hi = n.hi; next = n.next; child = None; capped = false; is_index = n.is_index; pairs = drop count n.pairs }
 
-module _ (n : WholeNode) (formed : IsWellFormed n) (many : 3 ≤ length n.pairs) (count : ℕ) (half : count ≡ length n.pairs / 2 + 1) (s : Bytes) where
+module _ (n : WholeNode) (formed : IsWellFormed n) (count : ℕ) (within : count ≤ length n.pairs) (s : Bytes) where
   abbrev xs : List (Bytes × Item)
   xs = take count n.pairs
 
   abbrev ys : List (Bytes × Item)
   ys = drop count n.pairs
-
-  within : count ≤ length n.pairs
-  within = omega arith
 
   all_pairs : xs ++ ys ≡ n.pairs
   all_pairs = take-append-drop count n.pairs
@@ -220,10 +217,10 @@ module _ (n : WholeNode) (formed : IsWellFormed n) (many : 3 ≤ length n.pairs)
       pages = (formed.pages.0, tt);
     }
 
-    pub parts_split : Splits n (left_part count s n) (right_part count s n)
+    pub parts_split : SplitsBehind n count (left_part count s n) (right_part count s n)
     parts_split = record {
       pairs = all_pairs;
-      count = length-take-le count n.pairs within ∙ half;
+      count = length-take-le count n.pairs within;
       kinds = (refl, refl);
       separator = parts;
       left_lo = refl;

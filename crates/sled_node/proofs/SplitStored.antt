@@ -1,5 +1,5 @@
 -- The parts of a node, by their stored keys.
-use Rattle.std.proofs.Common.{◌≡◌, ℕ, false, take, drop, Option, None, refl, sym, subst, ◌∙◌}
+use Rattle.std.proofs.Common.{◌≡◌, ℕ, ◌≤◌, false, length, take, drop, Option, None, refl, sym, subst, ◌∙◌, arith}
 use Rattle.std.proofs.lemmas.List.{take-map, drop-map}
 use Rattle.sled_base.specs.Order.{Bytes}
 use Rattle.std.specs.Option.{option_map}
@@ -10,7 +10,7 @@ use Rattle.sled_node.specs.declared.node.data.Data.{Data}
 use Rattle.sled_node.specs.declared.node.data.Data.TheVariants.{Leaf, Index}
 use Rattle.sled_node.specs.Node.{Value, Child, WholeNode, IsWellFormed}
 use Rattle.sled_node.specs.Parts.{is_index, pairs_under, node_of, HasStored}
-use Rattle.sled_node.specs.Splitting.{own_prefix, IsSplitPlace, Splits, MergeBack}
+use Rattle.sled_node.specs.Splitting.{own_prefix, IsSplitPlace, SplitsBehind, MergeBack}
 use Rattle.sled_node.specs.Restoring.{restored_data, first_data, later_data}
 use Rattle.sled_node.proofs.NodeEdits.{made}
 use Rattle.sled_node.proofs.Restoring.{Share, stored_from, restored_under, restored_kind}
@@ -54,11 +54,14 @@ module _ (n : Inside) (count : ℕ) (s : Bytes) where
   right_node = node_of (own_prefix s n.hi) next None false s n.hi right_data
 
   module _ (formed : IsWellFormed (the_view n)) (place : IsSplitPlace (the_view n) count s) where
+    within : count ≤ length (the_view n).pairs
+    within = let lt = place.others in omega (arith, lt)
+
     left_whole : IsWellFormed (left_part count s (the_view n))
-    left_whole = left_formed (the_view n) formed place.many count place.half s place.separates
+    left_whole = left_formed (the_view n) formed count within s place.separates
 
     right_whole : IsWellFormed (right_part count s (the_view n))
-    right_whole = right_formed (the_view n) formed place.many count place.half s place.separates
+    right_whole = right_formed (the_view n) formed count within s place.separates
 
     left_pairs : pairs_under (take (own_prefix n.lo s) n.lo) left_data ≡ take count (the_view n).pairs
     left_pairs =
@@ -96,12 +99,12 @@ module _ (n : Inside) (count : ℕ) (s : Bytes) where
     pub right_stored : HasStored right_data
     right_stored = stored_from (own_prefix s n.hi) next None false s n.hi right_data right_data_formed
 
-    pub stored_split : Splits (the_view n) left_node right_node
+    pub stored_split : SplitsBehind (the_view n) count left_node right_node
     stored_split =
-        let parts = parts_split (the_view n) formed place.many count place.half s place.separates in
-        subst (Splits (the_view n) left_node) (sym right_is) (subst (λ l. Splits (the_view n) l (right_part count s (the_view n))) (sym left_is) parts)
+        let parts = parts_split (the_view n) formed count within s place.separates in
+        subst (SplitsBehind (the_view n) count left_node) (sym right_is) (subst (λ l. SplitsBehind (the_view n) count l (right_part count s (the_view n))) (sym left_is) parts)
 
     pub stored_merge : MergeBack (the_view n) left_node right_node
     stored_merge =
-        let parts = parts_merge (the_view n) formed place.many count place.half s place.separates in
+        let parts = parts_merge (the_view n) formed count within s place.separates in
         subst (MergeBack (the_view n) left_node) (sym right_is) (subst (λ l. MergeBack (the_view n) l (right_part count s (the_view n))) (sym left_is) parts)

@@ -1,13 +1,13 @@
 -- A leaf's stored pairs beside its pairs with whole keys.
-use Rattle.std.proofs.Common.{◌≡◌, ◌≢◌, ℕ, ◌<◌, ◌≤◌, Bool, true, false, List, [], ◌∷◌, ◌++◌, length, get_or, take, drop, refl, sym, ap, subst, ◌∙◌, arith}
+use Rattle.std.proofs.Common.{◌≡◌, ◌≢◌, ℕ, ◌≤◌, Bool, true, false, List, [], ◌∷◌, ◌++◌, length, get_or, take, drop, refl, sym, ap, subst, ◌∙◌, arith}
 use Rattle.std.specs.Prelude.{slice_get, Some}
 use Rattle.std.specs.Bool.{Decides}
 use Rattle.std.specs.Option.{option_map}
 use Rattle.std.specs.List.{HoldsAt}
 use Rattle.std.proofs.lemmas.Slice.Eq.{bytes_eq-Decides}
 use Rattle.std.specs.Str.{bytes_eq}
-use Rattle.std.proofs.lemmas.List.{take-append-drop, length-map, length-take, length-take-le}
-use Rattle.std.proofs.lemmas.Option.{slice_get-map, slice_get_read, get_or_from_slice_get}
+use Rattle.std.proofs.lemmas.List.{take-append-drop, length-take, length-take-le}
+use Rattle.std.proofs.lemmas.Option.{slice_get-map, slice_get_within, get_or_from_slice_get}
 use Rattle.std.proofs.Math.Seq.{drop-append_seam, take-append_seam}
 use Rattle.sled_base.specs.Order.{Bytes, IsBelow, IsAtMost}
 use Rattle.sled_base.specs.OrderLaws.{below_trans, not_below_itself}
@@ -24,14 +24,13 @@ pub whole_at : (n : WholeNode) (stored : List (Bytes × Bytes)) (i : ℕ) (pair 
 whole_at n stored i pair are at =
     ap (λ pairs. slice_get pairs i) are ∙ slice_get-map (made (take n.prefix_len n.lo) (λ v. Value v)) stored i ∙ ap (option_map (made (take n.prefix_len n.lo) (λ v. Value v))) at
 
--- the stored pair at the place where a whole key stands
-pub found_pair : (n : WholeNode) (key : Bytes) (stored : List (Bytes × Bytes)) (i : ℕ) (pair : Bytes × Bytes) → n.pairs ≡ pairs_under (take n.prefix_len n.lo) (Leaf stored) → i < length n.pairs → HoldsAt (λ other. other.0 ≡ key) n.pairs i → pair ≡ get_or stored i pair → (whole n pair.0 ≡ key) × HasValue n key pair.1
-found_pair n key stored i pair are lt same is =
-    let within : i < length stored = omega (arith, ap length are, length-map stored (made (take n.prefix_len n.lo) (λ v. Value v))) in
-    let held : Bytes × Item = (whole n pair.0, Value pair.1) in
-    let here : get_or n.pairs i held ≡ held = get_or_from_slice_get n.pairs i held held (whole_at n stored i pair are (slice_get_read stored _ i pair refl within is)) in
-    let whole_is : whole n pair.0 ≡ key = ap (λ (other : Bytes × Item). other.0) (sym here) ∙ same held in
-    (whole_is, subst (λ k. HasValue n k pair.1) whole_is (i, lt, here))
+-- the pair at the place where a whole key stands
+pub found_pair : (n : WholeNode) (key : Bytes) (i : ℕ) (stored value : Bytes) → slice_get n.pairs i ≡ Some (whole n stored, Value value) → HoldsAt (λ other. other.0 ≡ key) n.pairs i → (whole n stored ≡ key) × HasValue n key value
+found_pair n key i stored value at same =
+    let held : Bytes × Item = (whole n stored, Value value) in
+    let here : get_or n.pairs i held ≡ held = get_or_from_slice_get n.pairs i held held at in
+    let whole_is : whole n stored ≡ key = ap (λ (other : Bytes × Item). other.0) (sym here) ∙ same held in
+    (whole_is, subst (λ k. HasValue n k value) whole_is (i, slice_get_within n.pairs i held at, here))
 
 -- what can't be otherwise is so, where a test tells
 decided : {P : Type 0} (b : Bool) → Decides b P → ((P → ⊥) → ⊥) → P

@@ -1,5 +1,6 @@
 pub mod Limits
 pub mod Pairs
+pub mod LeafStrings
 pub mod Equality
 pub mod DataEquality
 pub mod Node

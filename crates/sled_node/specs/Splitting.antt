@@ -1,5 +1,5 @@
 -- How a node is split in two, and how it is merged with its right neighbour.
-use Rattle.std.specs.Prelude.{◌≡◌, ◌≢◌, ℕ, ◌+◌, ◌/◌, ◌≤◌, ◌==◌, min, Bool, true, false, List, [], ◌∷◌, ◌++◌, length, take, drop, Option, Some, None, if◌then◌else◌}
+use Rattle.std.specs.Prelude.{◌≡◌, ◌≢◌, ℕ, ◌+◌, ◌/◌, ◌<◌, ◌≤◌, ◌==◌, min, Bool, true, false, List, [], ◌∷◌, ◌++◌, length, take, drop, Option, Some, None, if◌then◌else◌}
 use Rattle.sled_base.specs.Order.{Bytes, IsBelow, IsAtMost}
 use Rattle.sled_node.specs.Node.{Item, WholeNode}
 use Rattle.sled_node.specs.Limits.{pairs_limit, prefix_limit}
@@ -41,18 +41,18 @@ SeparatesAt index (Some left) (Some right) s = Separates index left right s
 SeparatesAt index None right s = ⊥
 SeparatesAt index (Some left) None s = ⊥
 
--- a node of three pairs or more is split behind so many pairs, at s
+-- a node is split behind so many of its pairs, at s
 pub record IsSplitPlace (n : WholeNode) (count : ℕ) (s : Bytes) : Type 0 where
-  pub many : 3 ≤ length n.pairs
-  -- the left has half of the pairs, and one more
-  pub half : count ≡ length n.pairs / 2 + 1
+  -- each part has a pair
+  pub some : 1 ≤ count
+  pub others : count < length n.pairs
   pub separates : SeparatesAt n.is_index (greatest (take count n.pairs)) (least (drop count n.pairs)) s
 
--- l and r are the parts of n
-pub record Splits (n l r : WholeNode) : Type 0 where
-  -- all pairs, of which the left has half, and one more
+-- l and r are the parts of n, and the left has so many of its pairs
+pub record SplitsBehind (n : WholeNode) (many : ℕ) (l r : WholeNode) : Type 0 where
+  -- all pairs
   pub pairs : l.pairs ++ r.pairs ≡ n.pairs
-  pub count : length l.pairs ≡ length n.pairs / 2 + 1
+  pub count : length l.pairs ≡ many
   pub kinds : (l.is_index ≡ n.is_index) × (r.is_index ≡ n.is_index)
   -- the range is split between the greatest left key and the least right one
   pub separator : SeparatesAt n.is_index (greatest l.pairs) (least r.pairs) r.lo
@@ -68,6 +68,10 @@ pub record Splits (n l r : WholeNode) : Type 0 where
   pub right_capped : r.capped ≡ false
   pub left_prefix : l.prefix_len ≡ own_prefix l.lo l.hi
   pub right_prefix : r.prefix_len ≡ own_prefix r.lo r.hi
+
+-- l and r are the parts of n, and the left has half of its pairs, and one more
+abbrev pub Splits : WholeNode → WholeNode → WholeNode → Type 0
+Splits n l r = SplitsBehind n (length n.pairs / 2 + 1) l r
 
 -- the right neighbour of a node of its kind, and few enough pairs for one node
 pub record CanReceive (l r : WholeNode) : Type 0 where

@@ -9,14 +9,16 @@ ghost use Rattle.sled_node.specs.Node.{whole, IsWellFormed, IsInRange, empty_lea
 ghost use Rattle.sled_node.specs.Links.{Accepts, AcceptsHere, AllocatesNothing, applied};
 ghost use Rattle.sled_node.specs.Pairs.{IsWithinLimit};
 ghost use Rattle.sled_node.specs.Parts.{node_of, HoldsData, item_of};
-ghost use Rattle.sled_node.specs.declared.node.link.Link.TheVariants.{Set, Del, ParentMergeConfirm};
+ghost use Rattle.sled_node.specs.declared.node.link.Link.TheVariants.{Set, Del};
 
 mod bounds;
 mod children;
 mod contents;
 mod data;
+mod debug;
 mod leaf;
 mod link;
+mod linking;
 mod lookups;
 mod merge;
 mod neighbours;
@@ -244,7 +246,7 @@ impl Node {
         ensures err { OnErr result (self.new ≡ self.old) }
     {
         match link {
-            Link::Set(key, value) => self.set_leaf(key.clone()?, value.clone()?)?,
+            Link::Set(key, value) => self.put(key.as_slice(), value.as_slice())?,
             Link::Del(key) => self.del_leaf(key),
             Link::ParentMergeIntention(page) => self.merging_child = NonZeroU64::new(*page),
             Link::ParentMergeConfirm => self.confirm_merge(),
@@ -281,8 +283,7 @@ impl Node {
         ensures ok { OnOk result (self.new ≡ applied (Set key value) self.old) }
         ensures err { OnErr result (self.new ≡ self.old) }
     {
-        self.contents.set(key, value)?;
-        Ok(())
+        self.put(key.as_slice(), value.as_slice())
     }
 
     /// Whether the node may be asked to take out the stored key by [`del_leaf`](Node::del_leaf): it is a leaf, and the
@@ -302,19 +303,6 @@ impl Node {
         self.contents.del(key.as_slice());
     }
 
-    // Whether the link may be applied, the node's own mark aside.
-    fn accepts_here(&self, link: &Link) -> bool
-        ensures { IsTrue result ↔ AcceptsHere self.now link.now }
-    {
-        match link {
-            Link::Set(key, value) => self.accepts_set(key, value),
-            Link::Del(key) => self.accepts_del(key),
-            Link::ParentMergeIntention(page) => *page != 0 && self.merging_child.is_none(),
-            Link::ParentMergeConfirm => self.leads_to_merging_child(),
-            Link::ChildMergeCap => true,
-        }
-    }
-
     // Whether the whole key of this stored key is in the range.
     fn spans(&self, stored: &[u8]) -> bool
         ensures { IsTrue result ↔ IsInRange self.now (whole self.now stored.now) }
@@ -329,27 +317,6 @@ impl Node {
         ensures { IsTrue result ↔ IsWithinLimit (whole self.now stored.now) }
     {
         stored.len() <= MAX_BYTES - self.prefix_len as usize
-    }
-
-    // Whether this is an index that leads to the child that is being merged.
-    fn leads_to_merging_child(&self) -> bool
-        ensures { IsTrue result ↔ AcceptsHere self.now ParentMergeConfirm }
-    {
-        match self.merging_child {
-            None => false,
-            Some(child) => self.contents.leads_to(child.get()),
-        }
-    }
-
-    // Takes the child that is being merged out of the index, and the mark away.
-    fn confirm_merge(&mut self)
-        requires { AcceptsHere self.old ParentMergeConfirm }
-        ensures { self.new ≡ applied ParentMergeConfirm self.old }
-    {
-        if let Some(child) = self.merging_child {
-            self.contents.remove_page(child.get());
-            self.merging_child = None;
-        }
     }
 }
 

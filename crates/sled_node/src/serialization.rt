@@ -3,5 +3,6 @@
 mod links;
 pub(crate) mod pairs;
 pub(crate) mod short;
+pub(crate) mod strings;
 
 pub use sled_base::serialization::{ConsumeSequence, Serialize};

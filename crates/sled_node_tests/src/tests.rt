@@ -1,13 +1,16 @@
 mod bounds;
+mod buffer;
 mod children;
 mod contents;
 mod corners;
 mod leaf;
 mod links;
+mod listed;
 mod lookups;
 mod meta;
 mod neighbours;
 mod parts;
+mod refused;
 mod serialization;
 mod sizes;
 mod split;

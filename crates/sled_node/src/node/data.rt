@@ -273,9 +273,9 @@ impl Clone for Data {
 
 impl Data {
     // Maps a stored key to a value.
-    pub(super) fn set(&mut self, key: IVec, value: IVec) -> Result<(), AllocError>
-        requires { CanSet key value self.old }
-        ensures ok { OnOk result (self.new ≡ set_stored key value self.old) }
+    pub(super) fn set(&mut self, key: &[u8], value: &[u8]) -> Result<(), AllocError>
+        requires { CanSet key.now value.now self.old }
+        ensures ok { OnOk result (self.new ≡ set_stored key.now value.now self.old) }
         ensures err { OnErr result (self.new ≡ self.old) }
     {
         match self {

@@ -3,13 +3,13 @@
 ghost use Rattle.std.specs.Prelude.{◌≡◌, ◌<◌, false, take, drop, length, Some, IfOk, IfErr, IfSome, IfNone, slice_get};
 ghost use Rattle.std.specs.List.{HoldsAt};
 ghost use Rattle.sled_node.specs.declared.node.data.Data.TheVariants.{Leaf as Stored};
-ghost use Rattle.sled_node.specs.Node.{whole, IsInRange, IsWellFormed};
-ghost use Rattle.sled_node.specs.Pairs.{IsAscending, StandsAt, IsGap};
+ghost use Rattle.sled_node.specs.Node.{Value, whole, IsInRange, IsWellFormed};
+ghost use Rattle.sled_node.specs.Pairs.{StandsAt, IsGap};
 ghost use Rattle.sled_node.specs.Parts.{pairs_under};
 ghost use Rattle.sled_node.specs.Lookups.{HasValue, LacksKey};
 
-use super::pairs::{is_below, place_of_key};
-use super::{Data, Node};
+use super::pairs::is_below;
+use super::{Data, Leaf, Node};
 use sled_base::IVec;
 use std::alloc::AllocError;
 
@@ -24,10 +24,7 @@ impl Node {
         ensures absent { IfNone result (LacksKey self.now key.now) }
     {
         match self.place_of_whole_key(key) {
-            Ok(at) => {
-                let pair = &self.leaf_pairs()[at];
-                Some((pair.0.as_slice(), pair.1.as_slice()))
-            }
+            Ok(at) => Some(self.leaf_pair(at)),
             Err(_) => None,
         }
     }
@@ -45,8 +42,10 @@ impl Node {
     {
         match self.place_of_whole_key(key) {
             Ok(at) => {
-                let pair = &self.leaf_pairs()[at];
-                Ok((pair.0.clone()?, Some(pair.1.clone()?)))
+                let alloc = self.contents.allocator();
+                let (stored, value) = self.leaf_pair(at);
+                let stored = IVec::from_slice(alloc, stored)?;
+                Ok((stored, Some(IVec::from_slice(alloc, value)?)))
             }
             Err(_) => {
                 let alloc = self.contents.allocator();
@@ -63,20 +62,23 @@ impl Node {
         ensures missing { IfErr result (IsGap self.now.pairs key.now) }
         ensures well_formed { IsWellFormed self.now }
     {
-        place_under(self.leaf_pairs(), self.prefix(), key)
+        match &self.contents {
+            Data::Leaf(leaf) => place_under(leaf, self.prefix(), key),
+            Data::Index(_) => unreachable!(),
+        }
     }
 
-    // The stored pairs of a leaf.
-    pub(super) fn leaf_pairs(&self) -> &[(IVec, IVec)]
+    // The stored key and the value of a leaf's pair at a place.
+    pub(super) fn leaf_pair(&self, place: usize) -> (&[u8], &[u8])
         requires leaf { self.now.is_index ≡ false }
-        ensures value { self.now.pairs
-            ≡ pairs_under (take self.now.prefix_len self.now.lo) (Stored result.now) }
-        ensures ascending { IsAscending result.now }
+        requires within { place < length self.now.pairs }
+        ensures there { slice_get self.now.pairs place
+            ≡ Some (whole self.now result.0.now, Value result.1.now) }
         ensures well_formed { IsWellFormed self.now }
     {
         match &self.contents {
-            Data::Leaf(leaf) => leaf.pairs(),
-            Data::Index(_) => &[],
+            Data::Leaf(leaf) => leaf.pair(place),
+            Data::Index(_) => unreachable!(),
         }
     }
 
@@ -99,16 +101,15 @@ impl Node {
 }
 
 // Where the whole key stands among pairs whose stored keys lack the prefix, or else where it would.
-fn place_under(pairs: &[(IVec, IVec)], prefix: &[u8], key: &[u8]) -> Result<usize, usize>
-    requires { IsAscending pairs.now }
-    ensures found { IfOk result (StandsAt (pairs_under prefix.now (Stored pairs.now)) key.now) }
+fn place_under(leaf: &Leaf, prefix: &[u8], key: &[u8]) -> Result<usize, usize>
+    ensures found { IfOk result (StandsAt (pairs_under prefix.now (Stored leaf.now)) key.now) }
     ensures same { IfOk result
-        (HoldsAt (λ pair. pair.0 ≡ key.now) (pairs_under prefix.now (Stored pairs.now))) }
-    ensures missing { IfErr result (IsGap (pairs_under prefix.now (Stored pairs.now)) key.now) }
+        (HoldsAt (λ pair. pair.0 ≡ key.now) (pairs_under prefix.now (Stored leaf.now))) }
+    ensures missing { IfErr result (IsGap (pairs_under prefix.now (Stored leaf.now)) key.now) }
 {
     match key.strip_prefix(prefix) {
-        Some(stored) => place_of_key(pairs, stored),
+        Some(stored) => leaf.place_of_key(stored),
         None if is_below(key, prefix) => Err(0),
-        None => Err(pairs.len()),
+        None => Err(leaf.len()),
     }
 }

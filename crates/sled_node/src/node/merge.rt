@@ -6,7 +6,7 @@ ghost use Rattle.sled_node.specs.Splitting.{CanReceive, merged};
 ghost use Rattle.sled_node.specs.Restoring.{restored, restored_data, joined_data};
 
 use super::stored::{own_prefix, store_without};
-use super::{Data, Index, Leaf, MAX_PAIRS, Node};
+use super::{Data, Index, MAX_PAIRS, Node};
 use sled_base::IVec;
 use std::alloc::AllocError;
 
@@ -68,10 +68,7 @@ impl Data {
     {
         match (self, right) {
             (Data::Leaf(left), Data::Leaf(right)) => {
-                let left = left.clone()?.into_pairs();
-                let right = right.clone()?.into_pairs();
-                let pairs = joined_pairs(left, prefix, right, right_prefix, skipped)?;
-                Ok(Data::Leaf(Leaf::of(pairs)))
+                Ok(Data::Leaf(left.joined(prefix, right, right_prefix, skipped)?))
             }
             (Data::Index(left), Data::Index(right)) => {
                 let left = left.clone()?.into_pairs();

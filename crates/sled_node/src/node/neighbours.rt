@@ -1,8 +1,8 @@
 //! The nearest pairs on either side of a bound.
 
-ghost use Rattle.std.specs.Prelude.{◌≡◌, false, IfOk, IfSome, IfNone};
+ghost use Rattle.std.specs.Prelude.{◌≡◌, ◌<◌, false, length, Some, IfOk, IfSome, IfNone, slice_get};
 ghost use Rattle.sled_base.specs.Order.{IsBelow, IsAtMost};
-ghost use Rattle.sled_node.specs.Node.{whole};
+ghost use Rattle.sled_node.specs.Node.{Value, IsWellFormed};
 ghost use Rattle.sled_node.specs.Neighbours.{IsBehind, IsBefore, IsLeast, IsGreatest, HasNone, IsCount};
 
 use super::Node;
@@ -23,10 +23,10 @@ impl Node {
         ensures none { IfOk result (λ found. IfNone found (HasNone (IsBehind bound.now) self.now)) }
     {
         let first = self.first_behind(bound);
-        match self.leaf_pairs().get(first) {
-            Some(pair) => Ok(Some(self.whole_pair(pair)?)),
-            None => Ok(None),
+        if first == self.len() {
+            return Ok(None);
         }
+        Ok(Some(self.whole_pair(first)?))
     }
 
     /// The whole key and the value of the leaf's last pair before the bound, or none where no pair is before it.
@@ -40,8 +40,8 @@ impl Node {
         ensures none { IfOk result (λ found. IfNone found (HasNone (IsBefore bound.now) self.now)) }
     {
         let end = self.end_before(bound);
-        match self.leaf_pairs()[..end].last() {
-            Some(pair) => Ok(Some(self.whole_pair(pair)?)),
+        match end.checked_sub(1) {
+            Some(last) => Ok(Some(self.whole_pair(last)?)),
             None => Ok(None),
         }
     }
@@ -96,13 +96,17 @@ impl Node {
         }
     }
 
-    // A copy of a stored pair, with its whole key.
-    fn whole_pair(&self, pair: &(IVec, IVec)) -> Result<(IVec, IVec), AllocError>
-        ensures key { IfOk result (λ copy. copy.0 ≡ whole self.now pair.now.0) }
-        ensures value { IfOk result (λ copy. copy.1 ≡ pair.now.1) }
+    // A copy of a leaf's pair at a place, with its whole key.
+    fn whole_pair(&self, place: usize) -> Result<(IVec, IVec), AllocError>
+        requires leaf { self.now.is_index ≡ false }
+        requires within { place < length self.now.pairs }
+        ensures there { IfOk result
+            (λ copy. slice_get self.now.pairs place ≡ Some (copy.0, Value copy.1)) }
+        ensures well_formed { IsWellFormed self.now }
     {
         let alloc = self.contents.allocator();
-        let key = decode(alloc, self.prefix(), pair.0.as_slice())?;
-        Ok((key, pair.1.clone()?))
+        let (key, value) = self.leaf_pair(place);
+        let key = decode(alloc, self.prefix(), key)?;
+        Ok((key, IVec::from_slice(alloc, value)?))
     }
 }

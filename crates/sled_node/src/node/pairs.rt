@@ -1,13 +1,12 @@
 //! Pairs of a key and an item, in the order of their keys.
 
-ghost use Rattle.std.specs.Prelude.{◌≡◌, ◌↔◌, IsTrue, IfOk, IfErr, OnOk, OnErr};
+ghost use Rattle.std.specs.Prelude.{◌≡◌, ◌↔◌, IsTrue, IfOk, IfErr};
 ghost use Rattle.std.specs.List.{AllByRecursion, HoldsAt};
 ghost use Rattle.sled_base.specs.Order.{IsBelow};
-ghost use Rattle.sled_node.specs.Pairs.{IsWithinLimit, IsAscending, StandsAt, IsGap, set_pair, del_pair};
+ghost use Rattle.sled_node.specs.Pairs.{IsWithinLimit, IsAscending, StandsAt, IsGap};
 
 use super::MAX_BYTES;
 use sled_base::IVec;
-use std::alloc::AllocError;
 
 /// Whether the first bytes are below the second.
 pub fn is_below(left: &[u8], right: &[u8]) -> bool
@@ -24,29 +23,6 @@ pub fn place_of_key<V>(pairs: &[(IVec, V)], key: &[u8]) -> Result<usize, usize>
     ensures missing { IfErr result (IsGap pairs.now key.now) }
 {
     pairs.binary_search_by(|pair| pair.0.as_slice().cmp(&key))
-}
-
-/// Maps the key to the item.
-pub fn set_in<V: Drop>(pairs: &mut Vec<(IVec, V)>, key: IVec, item: V) -> Result<(), AllocError>
-    requires { IsAscending pairs.old.items }
-    ensures ok { OnOk result (pairs.new.items ≡ set_pair key item pairs.old.items) }
-    ensures err { OnErr result (pairs.new.items ≡ pairs.old.items) }
-{
-    match place_of_key(pairs, key.as_slice()) {
-        Ok(at) => pairs[at] = (key, item),
-        Err(at) => pairs.insert(at, (key, item))?,
-    }
-    Ok(())
-}
-
-/// Takes the key out, if it is there.
-pub fn del_from<V: Drop>(pairs: &mut Vec<(IVec, V)>, key: &[u8])
-    requires { IsAscending pairs.old.items }
-    ensures { pairs.new.items ≡ del_pair key.now pairs.old.items }
-{
-    if let Ok(at) = place_of_key(pairs, key) {
-        pairs.remove(at);
-    }
 }
 
 /// Whether each key is below the next.

@@ -5,10 +5,11 @@ ghost use Rattle.std.specs.List.{AllByRecursion};
 ghost use Rattle.std.specs.Option.{option_map};
 ghost use Rattle.std.specs.Int.NonZero.{non_zero_u64_get};
 ghost use Rattle.sled_node.specs.Node.{IsPage};
+ghost use Rattle.sled_node.specs.Pairs.{IsWithinLimit, HasPairs};
 ghost use Rattle.sled_node.specs.Parts.{AreBounds, IsStoredWithin, AreStoredWithin, HasStored};
 
 use super::pairs::is_below;
-use super::{Data, MAX_BYTES};
+use super::{Data, Leaf, MAX_BYTES};
 use sled_base::IVec;
 use std::num::NonZeroU64;
 
@@ -40,7 +41,7 @@ pub fn are_stored_within(contents: &Data, lo: &[u8], hi: &[u8], most: usize) -> 
     ensures stored { HasStored contents.now }
 {
     match contents {
-        Data::Leaf(leaf) => are_within(leaf.pairs(), lo, hi, most),
+        Data::Leaf(leaf) => leaf_is_within(leaf, lo, hi, most),
         Data::Index(index) => are_within(index.pairs(), lo, hi, most),
     }
 }
@@ -69,6 +70,21 @@ fn are_within<V>(pairs: &[(IVec, V)], lo: &[u8], hi: &[u8], most: usize) -> bool
 {
     for pair in pairs {
         if !is_within(pair.0.as_slice(), lo, hi, most) {
+            return false;
+        }
+    }
+    true
+}
+
+// Whether each stored key of a leaf is within the bounds and no longer than `most`.
+fn leaf_is_within(leaf: &Leaf, lo: &[u8], hi: &[u8], most: usize) -> bool
+    ensures within { IsTrue result
+        ↔ AllByRecursion (λ pair. IsStoredWithin lo.now hi.now most pair.0) leaf.now }
+    ensures stored { HasPairs IsWithinLimit leaf.now }
+{
+    let strings = leaf.strings();
+    for i in 0..leaf.len() {
+        if !is_within(strings.get(i), lo, hi, most) {
             return false;
         }
     }

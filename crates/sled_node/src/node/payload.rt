@@ -15,7 +15,8 @@ ghost use Rattle.sled_node.specs.Node.{IsWellFormed};
 
 use super::{Data, Index, Leaf, Node};
 use crate::serialization::Serialize;
-use crate::serialization::pairs::{read_pairs, size_of_pairs, write_pairs};
+use crate::serialization::pairs::{read_pairs, size_of_pairs, split_pairs, write_pairs};
+use crate::serialization::strings::read_strings;
 use sled_base::serialization::tuples::{size_of_three, write_at, write_three, write_three_at};
 use sled_base::{Error, IVec};
 use std::alloc::{AllocError, Global};
@@ -91,7 +92,7 @@ fn size_of_leaf(leaf: &Leaf) -> u64
     ensures value { result ≡ length (written_pairs written_bytes leaf.now) }
     ensures bound { result < 2 ^ 57 }
 {
-    size_of_pairs(leaf.pairs())
+    (leaf.len() as u64).serialized_size() + leaf.strings().written().len() as u64
 }
 
 fn size_of_index(index: &Index) -> u64
@@ -108,7 +109,20 @@ fn write_leaf(leaf: &Leaf, out: &mut [u8]) -> usize
     ensures bytes { out.new ≡ written_pairs written_bytes leaf.now
         ++ drop (length (written_pairs written_bytes leaf.now)) out.old }
 {
-    write_pairs(leaf.pairs(), out)
+    write_counted(leaf.len(), leaf.strings().written(), out)
+}
+
+// Writes a count and what is behind it at the front.
+fn write_counted(count: usize, behind: &[u8], out: &mut [u8]) -> usize
+    requires { length (written_u64 count ++ behind.now) ≤ length out.old }
+    ensures size { result ≡ length (written_u64 count ++ behind.now) }
+    ensures bytes { out.new ≡ (written_u64 count ++ behind.now)
+        ++ drop (length (written_u64 count ++ behind.now)) out.old }
+{
+    let start = (count as u64).serialize_into(out);
+    let end = start + behind.len();
+    out[start..end].copy_from_slice(behind);
+    end
 }
 
 // Writes the pairs of an index at the front.
@@ -127,9 +141,16 @@ fn read_leaf(alloc: Global, input: &mut &[u8]) -> Result<Leaf, Error>
     ensures refused { IfErr result (IsRefusal AsksPairs ReadsLeaf input.old.now) }
     ensures stays { OnErr result (input.new ≡ input.old) }
 {
-    let mut rest = *input;
-    let pairs = read_pairs::<IVec>(alloc, &mut rest)?;
-    match Leaf::check_pairs(pairs) {
+    let Some((count, keys, _)) = split_pairs::<IVec>(*input) else {
+        return Err(Error::Corruption(None));
+    };
+    let mut rest = keys;
+    if count == 0 {
+        *input = rest;
+        return Ok(Leaf::default(alloc));
+    }
+    let strings = read_strings(alloc, 2 * count, &mut rest)?;
+    match Leaf::of_strings(strings) {
         Some(leaf) => {
             *input = rest;
             Ok(leaf)

@@ -1,10 +1,10 @@
 //! How large a node is, and whether it is to be split or merged.
 
 ghost use Rattle.std.specs.Prelude.{◌≡◌, ◌↔◌, ◌<◌, ◌≤◌, ◌^◌, IsTrue};
-ghost use Rattle.sled_node.specs.Pairs.{IsWithinLimit, HasPairs};
+ghost use Rattle.sled_node.specs.Pairs.{HasPairs};
 ghost use Rattle.sled_node.specs.Sizes.{IsUnmarked, ShouldSplit, ShouldMerge, node_size, data_size, leaf_size, index_size};
 
-use super::{Data, Node};
+use super::{Data, Leaf, Node};
 use sled_base::{IVec, PageId};
 
 // A leaf with more pairs is to be split.
@@ -83,21 +83,22 @@ impl Data {
         ensures bound { result ≤ 2 ^ 56 }
     {
         match self {
-            Data::Leaf(leaf) => size_of_values(leaf.pairs()),
+            Data::Leaf(leaf) => size_of_values(leaf),
             Data::Index(index) => size_of_pages(index.pairs()),
         }
     }
 }
 
 // How large the pairs of a leaf are.
-fn size_of_values(pairs: &[(IVec, IVec)]) -> u64
-    requires { HasPairs IsWithinLimit pairs.now }
-    ensures value { result ≡ leaf_size pairs.now }
+fn size_of_values(leaf: &Leaf) -> u64
+    ensures value { result ≡ leaf_size leaf.now }
     ensures bound { result ≤ 2 ^ 56 }
 {
+    let _ = leaf.strings();
     let mut size = 0;
-    for pair in pairs {
-        size += pair.0.len() as u64 + pair.1.len() as u64;
+    for i in 0..leaf.len() {
+        let (key, value) = leaf.pair(i);
+        size += key.len() as u64 + value.len() as u64;
     }
     size
 }

@@ -1,15 +1,18 @@
-//! Splitting a node in two.
+//! Splitting a node in two, and leading from the one part to the other.
 
-ghost use Rattle.std.specs.Prelude.{◌≡◌, ◌+◌, ◌/◌, ◌<◌, ◌≤◌, take, drop, length, IfOk, OnOk};
+ghost use Rattle.std.specs.Prelude.{◌≡◌, ◌+◌, ◌/◌, ◌<◌, ◌≤◌, take, drop, length, Some, IfOk, OnOk};
+ghost use Rattle.std.specs.Int.NonZero.{non_zero_u64_get};
 ghost use Rattle.sled_node.specs.Parts.{HasStored};
-ghost use Rattle.sled_node.specs.Splitting.{least, greatest, SeparatesAt, IsSplitPlace, Splits, MergeBack};
+ghost use Rattle.sled_node.specs.Splitting.{least, greatest, SeparatesAt, IsSplitPlace, SplitsBehind, Splits, MergeBack};
 ghost use Rattle.sled_node.specs.Restoring.{restored, restored_data, first_data, later_data, data_len};
 
+use super::parts::know_page;
 use super::stored::{common_len, own_prefix, store_without};
-use super::{Data, Index, Leaf, Node};
+use super::{Data, Index, Node};
 use sled_base::IVec;
 use sled_base::prefix::decode;
 use std::alloc::AllocError;
+use std::num::NonZeroU64;
 
 impl Node {
     /// Splits a node of three pairs or more in two. The left has the first `len / 2 + 1` of them, the right the others.
@@ -24,14 +27,36 @@ impl Node {
         ensures merge { IfOk result (λ parts. MergeBack self parts.0 parts.1) }
     {
         let count = self.len() / 2 + 1;
+        self.split_behind(count)
+    }
+
+    /// Splits a node in two, as [`split`](Node::split), but behind so many pairs, of which there are more: where keys only
+    /// rise, a left part that has all pairs but the last stays full.
+    ///
+    /// An error means that an allocation failed, and the node is let go.
+    pub fn split_behind(self, count: usize) -> Result<(Node, Node), AllocError>
+        requires some { 1 ≤ count }
+        requires others { count < length self.pairs }
+        ensures parts { IfOk result (λ parts. SplitsBehind self count parts.0 parts.1) }
+        ensures merge { IfOk result (λ parts. MergeBack self parts.0 parts.1) }
+    {
         let separator = self.separator(count)?;
         self.split_at(count, separator)
+    }
+
+    /// Sets the page of the node to the right, as for the left part of a split, which leads on to the right one. It
+    /// allocates nothing.
+    pub fn set_next(&mut self, page: NonZeroU64)
+        ensures { self.new ≡ record self.old { next = Some (non_zero_u64_get page) } }
+    {
+        know_page(Some(page));
+        self.next = Some(page);
     }
 
     // The parts that meet at the separator, of which the left has so many pairs.
     fn split_at(self, count: usize, separator: IVec) -> Result<(Node, Node), AllocError>
         requires { IsSplitPlace self count separator }
-        ensures parts { IfOk result (λ parts. Splits self parts.0 parts.1) }
+        ensures parts { IfOk result (λ parts. SplitsBehind self count parts.0 parts.1) }
         ensures merge { IfOk result (λ parts. MergeBack self parts.0 parts.1) }
     {
         let Node {
@@ -111,9 +136,9 @@ impl Data {
     {
         match self {
             Data::Leaf(leaf) => {
-                let mut left = leaf.into_pairs();
-                let right = split_pairs(&mut left, count, prefix, left_skipped, right_skipped)?;
-                Ok((Data::Leaf(Leaf::of(left)), Data::Leaf(Leaf::of(right))))
+                let left = leaf.restored(0, count, prefix, left_skipped)?;
+                let right = leaf.restored(count, leaf.len(), prefix, right_skipped)?;
+                Ok((Data::Leaf(left), Data::Leaf(right)))
             }
             Data::Index(index) => {
                 let mut left = index.into_pairs();

@@ -36,7 +36,7 @@ pub fn read_pairs<V: Serialize>(alloc: Global, input: &mut &[u8]) -> Result<Vec<
 }
 
 // The count, where the keys begin, and where the items do, if there may be so many pairs. It allocates nothing.
-fn split_pairs<V: Serialize>(input: &[u8]) -> Option<(usize, &[u8], &[u8])>
+pub fn split_pairs<V: Serialize>(input: &[u8]) -> Option<(usize, &[u8], &[u8])>
     requires { 1 ≤ V.least_size }
     ensures found { IfSome result (λ x. SplitsPairs input.now x.0 x.1.now x.2.now) }
     ensures nothing { IfNone result (ReadsNoValue (ReadsPairs V.reads) input.now) }

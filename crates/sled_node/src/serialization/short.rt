@@ -10,7 +10,7 @@ use sled_base::{Error, IVec};
 use std::alloc::Global;
 
 // The byte string at the front, where it lies, and the rest, if there is one that is short enough.
-fn split_short(bytes: &[u8]) -> Option<(&[u8], &[u8])>
+pub fn split_short(bytes: &[u8]) -> Option<(&[u8], &[u8])>
     ensures read { IfSome result (λ x. ReadsShort bytes.now x.0.now x.1.now) }
     ensures nothing { IfNone result (ReadsNoValue ReadsShort bytes.now) }
 {

@@ -208,7 +208,7 @@ fn is_read(alloc: Global, leaf: &Node, shape: &Shape, tail: &[u8], count: u32) -
 }
 
 // Whether the leaf takes the key with the value.
-fn sets(alloc: Global, leaf: &mut Node, key: &[u8], value: &[u8]) -> bool {
+pub(super) fn sets(alloc: Global, leaf: &mut Node, key: &[u8], value: &[u8]) -> bool {
     let Ok(key) = bytes(alloc, key) else {
         return false;
     };
@@ -218,7 +218,7 @@ fn sets(alloc: Global, leaf: &mut Node, key: &[u8], value: &[u8]) -> bool {
     }
 }
 
-fn deletes(alloc: Global, leaf: &mut Node, key: &[u8]) -> bool {
+pub(super) fn deletes(alloc: Global, leaf: &mut Node, key: &[u8]) -> bool {
     match bytes(alloc, key) {
         Ok(key) => takes(leaf, Link::Del(key)),
         Err(_) => false,

@@ -90,3 +90,35 @@ fn are_clones_equal(alloc: Global) -> bool {
 fn clones_are_equal(rt: HostRuntime) {
     assert!(rt; are_clones_equal(rt.alloc()));
 }
+
+// Whether the leaf of these keys is written so.
+fn is_shown(alloc: Global, keys: &[&[u8]], wanted: &str) -> bool {
+    match leaf_of(alloc, keys) {
+        Ok(Some(leaf)) => is_text(format!(in alloc; "{leaf:?}"), wanted),
+        _ => false,
+    }
+}
+
+fn is_text(text: Result<String, AllocError>, wanted: &str) -> bool {
+    match text {
+        Ok(text) => text.as_str() == wanted,
+        Err(_) => false,
+    }
+}
+
+const SHOWN: &[(&[&[u8]], &str)] = &[
+    (&[], "Leaf { pairs: [] }"),
+    (&[b""], "Leaf { pairs: [([], [118])] }"),
+    (&[b"a"], "Leaf { pairs: [([97], [118])] }"),
+    (
+        &[b"a", b"aa", b"b"],
+        "Leaf { pairs: [([97], [118]), ([97, 97], [118]), ([98], [118])] }",
+    ),
+];
+
+#[test]
+fn leaves_are_written_as_their_pairs(rt: HostRuntime) {
+    for (keys, wanted) in SHOWN {
+        assert!(rt; is_shown(rt.alloc(), keys, wanted), "{keys:?}");
+    }
+}

@@ -171,9 +171,15 @@ fn is_index_written(alloc: Global, left: &[u8], right: &[u8], bytes: Option<&[u8
 #[test]
 fn leaves_and_indexes(rt: HostRuntime) {
     let alloc = rt.alloc();
-    let longer = [0, 250, 1, 0, 0, 1, 97, 1, 98, 7];
     assert!(rt; is_empty_leaf_written(alloc));
-    assert!(rt; is_leaf_read(alloc, &longer, &[0, 1, 1, 97, 1, 98]));
+    // the count, a key's length or a value's takes more bytes than it has to
+    for longer in [
+        [0, 250, 1, 0, 0, 1, 97, 1, 98, 7],
+        [0, 1, 250, 1, 0, 0, 97, 1, 98, 7],
+        [0, 1, 1, 97, 250, 1, 0, 0, 98, 7],
+    ] {
+        assert!(rt; is_leaf_read(alloc, &longer, &[0, 1, 1, 97, 1, 98]));
+    }
     for (left, right, bytes) in [
         (
             b"".as_slice(),

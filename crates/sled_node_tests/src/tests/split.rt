@@ -151,6 +151,94 @@ fn nodes_split_and_merge(rt: HostRuntime) {
     }
 }
 
+// Whether the node of the text splits behind so many of its pairs into the nodes of the next two.
+fn splits_behind(alloc: Global, whole: &[u8], count: usize, left: &[u8], right: &[u8]) -> bool {
+    let Some(node) = node_of(alloc, whole) else {
+        return false;
+    };
+    if count == 0 || count >= node.len() {
+        return false;
+    }
+    match node.split_behind(count) {
+        Ok(parts) => is_read(alloc, left, &parts.0) && is_read(alloc, right, &parts.1),
+        Err(_) => false,
+    }
+}
+
+const BEHIND: &[(&str, &[u8], usize, &[u8], &[u8])] = &[
+    (
+        "a leaf behind its first pair",
+        b"\x07\x05\x01\0\x02aa\0\0\x03\x03aab\x03aac\x03aad\x01v\x01w\x01x",
+        1,
+        b"\0\x05\x01\x02\x02aa\x03aac\0\x01\x01b\x01v",
+        b"\x07\0\0\0\x03aac\0\0\x02\x03aac\x03aad\x01w\x01x",
+    ),
+    (
+        "an index behind its first pair",
+        b"\x07\x05\x01\0\0\0\x01\x03\0\x01b\x01c\x02\x03\x04",
+        1,
+        b"\0\x05\x01\0\0\x01b\x01\x01\0\x02",
+        b"\x07\0\0\0\x01b\0\x01\x02\x01b\x01c\x03\x04",
+    ),
+    (
+        "two pairs",
+        b"\x07\0\0\0\0\0\0\x02\x01a\x01b\x01v\x01w",
+        1,
+        b"\0\0\0\0\0\x01b\0\x01\x01a\x01v",
+        b"\x07\0\0\0\x01b\0\0\x01\x01b\x01w",
+    ),
+    (
+        "all pairs but the last",
+        b"\0\0\0\0\0\0\0\x05\x01a\x01b\x01c\x01d\x01e\0\0\0\0\0",
+        4,
+        b"\0\0\0\0\0\x01e\0\x04\x01a\x01b\x01c\x01d\0\0\0\0",
+        b"\0\0\0\0\x01e\0\0\x01\x01e\0",
+    ),
+];
+
+#[test]
+fn nodes_split_behind_any_pair_but_the_last(rt: HostRuntime) {
+    for (row, whole, count, left, right) in BEHIND {
+        assert!(rt;
+            splits_behind(rt.alloc(), whole, *count, left, right),
+            "{row}"
+        );
+    }
+}
+
+// Whether the node of the text, leading on to the page, is that of the other text.
+fn leads_on(alloc: Global, before: &[u8], page: u64, after: &[u8]) -> bool {
+    match (node_of(alloc, before), NonZeroU64::new(page)) {
+        (Some(mut node), Some(page)) => {
+            node.set_next(page);
+            is_read(alloc, after, &node)
+        }
+        _ => false,
+    }
+}
+
+const NEXT: &[(&str, &[u8], u64, &[u8])] = &[
+    (
+        "no next",
+        b"\0\x05\x01\0\0\x01m\0\0",
+        9,
+        b"\x09\x05\x01\0\0\x01m\0\0",
+    ),
+    (
+        "another next",
+        b"\x07\0\0\0\0\x01m\x01\0",
+        9,
+        b"\x09\0\0\0\0\x01m\x01\0",
+    ),
+];
+
+#[test]
+fn a_node_leads_on_to_its_next(rt: HostRuntime) {
+    for (row, before, page, after) in NEXT {
+        assert!(rt; leads_on(rt.alloc(), before, *page, after), "{row}");
+    }
+}
+
 fn takes_in(alloc: Global, left: &Node, right: &[u8], is_so: bool) -> bool {
     match node_of(alloc, right) {
         Some(right) => left.can_receive(&right) == is_so,

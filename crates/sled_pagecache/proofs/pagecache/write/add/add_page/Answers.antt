@@ -12,12 +12,12 @@ write_node-requires-clause-can g c = λ told.
 -- there are as many pages as may be
 pub returns-then-len-eq-MAX_PAGES : goal.returns-then-len-eq-MAX_PAGES
 returns-then-len-eq-MAX_PAGES g c =
-    refuses-unasked g.L.Log c.requires.ready c.requires.usable (search rules) PagesUsedUp (λ is. cc) (written-update (Put (Node c.args.node)) c.data.ensures.well_formed) (inl (sym c.len.ensures.number ∙ c.if-len-eq-MAX_PAGES.true, refl)) refl
+    refuses-unasked g.L.Log c.requires.ready c.requires.usable (g.met.L.Log.only_now c.args.sticky_log.now.log) PagesUsedUp (λ is. cc) (written-update (Put (Node c.args.node)) c.data.ensures.well_formed) (inl (sym c.len.ensures.number ∙ c.if-len-eq-MAX_PAGES.true, refl)) refl
 
 -- there was no memory for it
 pub returns-in_default : goal.returns-in_default
 returns-in_default g c =
-    refuses-memory g.L.Log c.requires.ready c.requires.usable (search rules) (written-update (Put (Node c.args.node)) c.data.ensures.well_formed) (inr ((λ all. c.if-len-eq-MAX_PAGES.false (c.len.ensures.number ∙ all)), tt)) c.reserve.ensures.same (inl refl)
+    refuses-memory g.L.Log c.requires.ready c.requires.usable (g.met.L.Log.only_now c.args.sticky_log.now.log) (written-update (Put (Node c.args.node)) c.data.ensures.well_formed) (inr ((λ all. c.if-len-eq-MAX_PAGES.false (c.len.ensures.number ∙ all)), tt)) c.reserve.ensures.same (inl refl)
 
 -- there was none for the node
 pub returns-in_default-new : goal.returns-in_default-new

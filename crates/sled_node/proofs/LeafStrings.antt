@@ -1,0 +1,413 @@
+-- The pairs of a leaf, whose strings are all stored keys and then all values.
+use Rattle.std.proofs.Common.{◌≡◌, ◌≢◌, ℕ, suc, ◌+◌, ◌-◌, ◌/◌, ◌<◌, ◌≤◌, List, [], ◌∷◌, ◌++◌, Some, length, get_or, map, take, drop, refl, sym, ap, subst, ◌∙◌, append_assoc, arith}
+use Rattle.std.proofs.lemmas.List.{length-append, length-map, length-take-le, take_at, drop_at, take-append-drop, drop_more, length-drop, length-take, take_all, map_more, get_or-drop, get_or-take, get_or_append_left, get_or-append-add, get_or-map}
+use Rattle.std.proofs.lemmas.Option.{get_or_from_slice_get, slice_get_read, slice_get_within}
+use Rattle.std.proofs.Math.Seq.{take-append-add, drop-append-add}
+use Rattle.std.specs.List.{flat_map, AllByRecursion, HoldsAt, slice_get}
+use Rattle.sled_base.specs.Payloads.Numbers.{written_u64}
+use Rattle.sled_base.specs.Payloads.ByteStrings.{written_bytes}
+use Rattle.std.specs.Prelude.{All, Result, Ok, Err, IfOk, IfErr, OnOk, OnErr, is_ok, Bool, true, false, IsTrue, ◌↔◌}
+use Rattle.std.specs.Bool.{Decides}
+use Rattle.std.specs.declared.cmp.Ordering.{Ordering}
+use Rattle.std.specs.declared.cmp.Ordering.TheVariants.{Less, Equal, Greater}
+use Rattle.std.specs.Ordering.{is_lt}
+use Rattle.sled_base.specs.Order.{Bytes, bytes_cmp, is_below, IsBelow, IsAtMost}
+use Rattle.sled_base.specs.OrderLaws.{equal_is_same, above_is_below, below_is_at_most, below_is_above, below_trans}
+use Rattle.sled_base.specs.Searches.{IsSorted, IsLastEqual, count_below}
+use Rattle.sled_base.specs.Strings.{with_at, without_at}
+use Rattle.sled_node.specs.Payloads.Pairs.{keys_of, items_of}
+use Rattle.sled_node.specs.Pairs.{IsWithinLimit, IsAscending, HasPairs, StandsAt, IsGap, pairs_below, pairs_above, set_pair, del_pair}
+use Rattle.sled_node.specs.LeafStrings.{pairs_of, paired, IsLeaf}
+use Rattle.sled_node.specs.Payloads.PairLaws.{all_keys, all_items}
+use Rattle.sled_node.specs.Restoring.{restored}
+use Rattle.sled_node.proofs.Ascending.{all_at}
+use Rattle.sled_node.proofs.Edits.{all_append}
+use Rattle.sled_node.proofs.Restoring.{all_parts}
+use Rattle.sled_node.proofs.Places.{all_so, all_above, past, stands}
+
+abbrev Pairs : Type 0
+Pairs = List (Bytes × Bytes)
+
+abbrev strings_of : Pairs → List Bytes
+strings_of pairs = keys_of pairs ++ items_of pairs
+
+pub pairs_back : (pairs : Pairs) → pairs_of (keys_of pairs) (items_of pairs) ≡ pairs
+pairs_back [] = refl
+pairs_back (pair ∷ pairs) = ap (λ rest. pair ∷ rest) (pairs_back pairs)
+
+module _ (pairs : Pairs) where
+  pub many_keys : length (keys_of pairs) ≡ length pairs
+  many_keys = length-map pairs (λ pair. pair.0)
+
+  pub many_items : length (items_of pairs) ≡ length pairs
+  many_items = length-map pairs (λ pair. pair.1)
+
+  pub many_both : length (keys_of pairs ++ items_of pairs) ≡ length pairs + length pairs
+  many_both = omega (arith, length-append (keys_of pairs) (items_of pairs), many_keys, many_items)
+
+  -- strings that are these keys and then these values have these pairs
+  pub paired_is : paired (keys_of pairs ++ items_of pairs) ≡ pairs
+  paired_is =
+      let half : length (keys_of pairs ++ items_of pairs) / 2 ≡ length pairs = omega (arith, many_both) in
+      let first : take (length (keys_of pairs ++ items_of pairs) / 2) (keys_of pairs ++ items_of pairs) ≡ keys_of pairs = ap (λ n. take n (keys_of pairs ++ items_of pairs)) half ∙ take_at (keys_of pairs) (items_of pairs) (length pairs) many_keys in
+      let second : drop (length (keys_of pairs ++ items_of pairs) / 2) (keys_of pairs ++ items_of pairs) ≡ items_of pairs = ap (λ n. drop n (keys_of pairs ++ items_of pairs)) half ∙ drop_at (keys_of pairs) (items_of pairs) (length pairs) many_keys in
+      (λ i. pairs_of (first i) (second i)) ∙ pairs_back pairs
+
+module _ (pairs : Pairs) (strings : List Bytes) (are : strings ≡ keys_of pairs ++ items_of pairs) where
+  -- these strings are a leaf's, and its pairs are these
+  pub paired_so : paired strings ≡ pairs
+  paired_so = ap paired are ∙ paired_is pairs
+
+  pub is_leaf : HasPairs IsWithinLimit pairs → IsLeaf strings
+  is_leaf has = record {
+    whole = ap (λ ps. keys_of ps ++ items_of ps) paired_so ∙ sym are;
+    stored = subst (HasPairs IsWithinLimit) (sym paired_so) has;
+  }
+
+  pub half_is : length strings / 2 ≡ length pairs
+  half_is = omega (arith, ap length are, many_both pairs)
+
+  pub keys_first : take (length pairs) strings ≡ keys_of pairs
+  keys_first = ap (take (length pairs)) are ∙ take_at (keys_of pairs) (items_of pairs) (length pairs) (many_keys pairs)
+
+  -- the key and the value of a pair
+  pub key_there : (i : ℕ) (d : Bytes) (e : Bytes × Bytes) → i < length pairs → get_or strings i d ≡ (get_or pairs i e).0
+  key_there i d e lt = ap (λ ss. get_or ss i d) are ∙ get_or_append_left (keys_of pairs) (items_of pairs) d i (omega (arith, lt, many_keys pairs)) ∙ get_or-map (λ pair. pair.0) pairs i e d lt
+
+  pub item_there : (i : ℕ) (d : Bytes) (e : Bytes × Bytes) → i < length pairs → get_or strings (length pairs + i) d ≡ (get_or pairs i e).1
+  item_there i d e lt =
+      (λ k. get_or (are k) (sym (many_keys pairs) k + i) d) ∙ get_or-append-add (keys_of pairs) (items_of pairs) i d ∙ get_or-map (λ pair. pair.1) pairs i e d lt
+
+  pub pair_there : (i : ℕ) (key value : Bytes) → i < length pairs → slice_get strings i ≡ Some key → slice_get strings (length pairs + i) ≡ Some value → slice_get pairs i ≡ Some (key, value)
+  pair_there i key value lt first second =
+      let one : key ≡ (get_or pairs i (key, value)).0 = sym (get_or_from_slice_get strings i key key first) ∙ key_there i key (key, value) lt in
+      let two : value ≡ (get_or pairs i (key, value)).1 = sym (get_or_from_slice_get strings (length pairs + i) value value second) ∙ item_there i value (key, value) lt in
+      slice_get_read pairs _ i (key, value) refl lt (λ k. (one k, two k))
+
+-- the strings of a leaf with these pairs
+pub leaf_strings : (strings : List Bytes) (pairs : Pairs) → IsLeaf strings → paired strings ≡ pairs → strings ≡ keys_of pairs ++ items_of pairs
+leaf_strings strings pairs leaf is = sym leaf.whole ∙ ap (λ ps. keys_of ps ++ items_of ps) is
+
+pub leaf_stored : (strings : List Bytes) (pairs : Pairs) → IsLeaf strings → paired strings ≡ pairs → HasPairs IsWithinLimit pairs
+leaf_stored strings pairs leaf is = subst (HasPairs IsWithinLimit) is leaf.stored
+
+-- two tests of what is the same are one
+pub same_tests : {P Q : Type 0} (a b : Bool) → IsTrue a ↔ P → Decides b Q → (P → Q) → (Q → P) → a ≡ b
+same_tests true true one two so back = refl
+same_tests true false one two so back = let yes = two.1 (so (one.0 refl)) in absurd cc
+same_tests false true one two so back = let yes = one.1 (back (two.0 refl)) in absurd cc
+same_tests false false one two so back = refl
+
+-- ---- where a key stands
+
+sorted_after : (low : Bytes) (pairs : Pairs) → AllByRecursion (λ later. IsBelow low later.0) pairs → AllByRecursion (λ later. IsAtMost low later) (keys_of pairs)
+sorted_after low [] all = tt
+sorted_after low (pair ∷ pairs) all = (below_is_at_most low pair.0 all.0, sorted_after low pairs all.1)
+
+-- ascending keys are sorted
+pub keys_sorted : (pairs : Pairs) → IsAscending pairs → IsSorted (keys_of pairs)
+keys_sorted [] ascending = tt
+keys_sorted (pair ∷ pairs) ascending = (sorted_after pair.0 pairs ascending.0, keys_sorted pairs ascending.1)
+
+module _ (key : Bytes) where
+  pub same_key : (pairs : Pairs) (i : ℕ) → IsLastEqual key (keys_of pairs) i → HoldsAt (λ pair. pair.0 ≡ key) pairs i
+  same_key pairs i last = λ d. sym (get_or-map (λ pair. pair.0) pairs i d d.0 (omega (arith, last.within, many_keys pairs))) ∙ last.here d.0
+
+  pub found_key : (pairs : Pairs) (i : ℕ) → IsAscending pairs → IsLastEqual key (keys_of pairs) i → StandsAt pairs key i
+  found_key pairs i ascending last = stands key pairs i ascending (omega (arith, last.within, many_keys pairs)) (same_key pairs i last)
+
+  -- none of the keys is below one that is below them all
+  none_below : (pairs : Pairs) → AllByRecursion (λ pair. IsBelow key pair.0) pairs → count_below key (keys_of pairs) ≡ 0
+  none_below [] all = refl
+  none_below (pair ∷ pairs) all =
+      let no : is_below pair.0 key ≡ false = ap is_lt (below_is_above key pair.0 all.0) in
+      rw no (none_below pairs all.1)
+
+  other_keys : (pair : Bytes × Bytes) (pairs : Pairs) → All (λ other. other ≢ key) (keys_of (pair ∷ pairs)) → All (λ other. other ≢ key) (keys_of pairs)
+  other_keys pair pairs others k d lt = others (suc k) d (omega arith)
+
+  module _ (pair : Bytes × Bytes) (pairs : Pairs) where
+    first_below : IsBelow pair.0 key → IsGap pairs key (count_below key (keys_of pairs)) → IsGap (pair ∷ pairs) key (count_below key (keys_of (pair ∷ pairs)))
+    first_below is rest =
+        let step = past key pair pairs is in
+        let yes : is_below pair.0 key ≡ true = ap is_lt is in
+        let count : count_below key (keys_of (pair ∷ pairs)) ≡ suc (count_below key (keys_of pairs)) = rw yes refl in
+        subst (IsGap (pair ∷ pairs) key) (sym count) (record { within = omega (arith, rest.within); before = ap (λ ps. pair ∷ ps) rest.before ∙ sym step.0; after = rest.after ∙ sym step.1 })
+
+    first_above : IsBelow key pair.0 → AllByRecursion (λ later. IsBelow pair.0 later.0) pairs → IsGap (pair ∷ pairs) key (count_below key (keys_of (pair ∷ pairs)))
+    first_above lt later =
+        let all : AllByRecursion (λ other. IsBelow key other.0) (pair ∷ pairs) = (lt, all_so (λ other more. below_trans key pair.0 other.0 lt more) pairs later) in
+        let nothing = all_above key (pair ∷ pairs) all in
+        subst (IsGap (pair ∷ pairs) key) (sym (none_below (pair ∷ pairs) all)) (record { within = omega arith; before = sym nothing.0; after = sym nothing.1 })
+
+    first_so : (o : Ordering) → bytes_cmp pair.0 key ≡ o → pair.0 ≢ key → IsAscending (pair ∷ pairs) → IsGap pairs key (count_below key (keys_of pairs)) → IsGap (pair ∷ pairs) key (count_below key (keys_of (pair ∷ pairs)))
+    first_so Less is other ascending rest = first_below is rest
+    first_so Equal is other ascending rest = absurd (other (equal_is_same pair.0 key is))
+    first_so Greater is other ascending rest = first_above (above_is_below pair.0 key is) ascending.0
+
+  pub missing_key : (pairs : Pairs) → IsAscending pairs → All (λ other. other ≢ key) (keys_of pairs) → IsGap pairs key (count_below key (keys_of pairs))
+  missing_key [] ascending others = record { within = omega arith; before = refl; after = refl }
+  missing_key (pair ∷ pairs) ascending others =
+      first_so pair pairs (bytes_cmp pair.0 key) refl (others 0 pair.0 (omega arith)) ascending (missing_key pairs ascending.1 (other_keys pair pairs others))
+
+  -- what a search among the keys answers
+  module _ (pairs : Pairs) (keys : List Bytes) (are : keys ≡ keys_of pairs) (ascending : IsAscending pairs) where
+    pub found_so : (r : Result ℕ ℕ) → IfOk r (IsLastEqual key keys) → IfOk r (StandsAt pairs key)
+    found_so (Ok i) last = found_key pairs i ascending (subst (λ ks. IsLastEqual key ks i) are last)
+    found_so (Err i) last = tt
+
+    pub same_so : (r : Result ℕ ℕ) → IfOk r (IsLastEqual key keys) → IfOk r (HoldsAt (λ pair. pair.0 ≡ key) pairs)
+    same_so (Ok i) last = same_key pairs i (subst (λ ks. IsLastEqual key ks i) are last)
+    same_so (Err i) last = tt
+
+    pub missing_so : (r : Result ℕ ℕ) → OnErr r (All (λ other. other ≢ key) keys) → IfErr r (λ n. n ≡ count_below key keys) → IfErr r (IsGap pairs key)
+    missing_so (Ok i) others below = tt
+    missing_so (Err n) others below =
+        subst (IsGap pairs key) (sym (below ∙ ap (count_below key) are)) (missing_key pairs ascending (subst (All (λ other. other ≢ key)) are others))
+
+-- keys and items of parts
+pub keys_both : (xs ys : Pairs) → keys_of (xs ++ ys) ≡ keys_of xs ++ keys_of ys
+keys_both [] ys = refl
+keys_both (x ∷ xs) ys = ap (λ rest. x.0 ∷ rest) (keys_both xs ys)
+
+pub items_both : (xs ys : Pairs) → items_of (xs ++ ys) ≡ items_of xs ++ items_of ys
+items_both [] ys = refl
+items_both (x ∷ xs) ys = ap (λ rest. x.1 ∷ rest) (items_both xs ys)
+
+-- ---- edits
+
+module _ (front back : Pairs) where
+  -- what stands where in the strings of the pairs of both
+  split_of : keys_of (front ++ back) ++ items_of (front ++ back) ≡ (keys_of front ++ keys_of back) ++ (items_of front ++ items_of back)
+  split_of = λ i. keys_both front back i ++ items_both front back i
+
+  count_of : length (keys_of front ++ keys_of back) ≡ length (front ++ back)
+  count_of = omega (arith, length-append (keys_of front) (keys_of back), length-append front back, many_keys front, many_keys back)
+
+  -- a value put in, and then its key
+  pub put_pair : (key value : Bytes) (strings longer : List Bytes) (place count : ℕ) → strings ≡ keys_of (front ++ back) ++ items_of (front ++ back) → place ≡ length front → count ≡ length (front ++ back)
+      → longer ≡ with_at (count + place) value strings
+      → with_at place key longer ≡ keys_of (front ++ (key, value) ∷ back) ++ items_of (front ++ (key, value) ∷ back)
+  put_pair key value strings longer place count is place_is count_is longer_is =
+      let ks = keys_of front ++ keys_of back in
+      let vs = items_of front ++ items_of back in
+      let all : strings ≡ ks ++ vs = is ∙ split_of in
+      let n : length ks ≡ count = count_of ∙ sym count_is in
+      let in_values : place ≡ length (items_of front) = place_is ∙ sym (many_items front) in
+      let in_keys : length (keys_of front) ≡ place = many_keys front ∙ sym place_is in
+      let low : take (count + place) strings ≡ ks ++ items_of front = (λ i. take (sym n i + place) (all i)) ∙ take-append-add ks vs place ∙ ap (λ r. ks ++ r) (take_at (items_of front) (items_of back) place (sym in_values)) in
+      let high : drop (count + place) strings ≡ items_of back = (λ i. drop (sym n i + place) (all i)) ∙ drop-append-add ks vs place ∙ drop_at (items_of front) (items_of back) place (sym in_values) in
+      let rest = items_of front ++ value ∷ items_of back in
+      let with_value : longer ≡ keys_of front ++ (keys_of back ++ rest) = longer_is ∙ (λ i. low i ++ value ∷ high i) ∙ append_assoc ks (items_of front) (value ∷ items_of back) ∙ append_assoc (keys_of front) (keys_of back) rest in
+      let first : take place longer ≡ keys_of front = ap (take place) with_value ∙ take_at (keys_of front) (keys_of back ++ rest) place in_keys in
+      let last : drop place longer ≡ keys_of back ++ rest = ap (drop place) with_value ∙ drop_at (keys_of front) (keys_of back ++ rest) place in_keys in
+      (λ i. first i ++ key ∷ last i) ∙ sym (append_assoc (keys_of front) (key ∷ keys_of back) rest) ∙ (λ i. sym (keys_both front ((key, value) ∷ back)) i ++ sym (items_both front ((key, value) ∷ back)) i)
+
+  -- a value in the place of another
+  pub put_value : (old : Bytes × Bytes) (value : Bytes) (strings : List Bytes) (place count : ℕ) → strings ≡ keys_of (front ++ old ∷ back) ++ items_of (front ++ old ∷ back) → place ≡ length front → count ≡ length (front ++ old ∷ back)
+      → take (count + place) strings ++ value ∷ drop (count + place + 1) strings ≡ keys_of (front ++ (old.0, value) ∷ back) ++ items_of (front ++ (old.0, value) ∷ back)
+  put_value old value strings place count is place_is count_is =
+      let ks = keys_of (front ++ old ∷ back) in
+      let all : strings ≡ ks ++ (items_of front ++ old.1 ∷ items_of back) = is ∙ ap (λ r. ks ++ r) (items_both front (old ∷ back)) in
+      let n : length ks ≡ count = many_keys (front ++ old ∷ back) ∙ sym count_is in
+      let in_values : length (items_of front) ≡ place = many_items front ∙ sym place_is in
+      let low : take (count + place) strings ≡ ks ++ items_of front = (λ i. take (sym n i + place) (all i)) ∙ take-append-add ks (items_of front ++ old.1 ∷ items_of back) place ∙ ap (λ r. ks ++ r) (take_at (items_of front) (old.1 ∷ items_of back) place in_values) in
+      let after : items_of front ++ old.1 ∷ items_of back ≡ (items_of front ++ old.1 ∷ []) ++ items_of back = sym (append_assoc (items_of front) (old.1 ∷ []) (items_of back)) in
+      let sum : count + place + 1 ≡ length ks + (place + 1) = omega (arith, n) in
+      let high : drop (count + place + 1) strings ≡ items_of back = (λ i. drop (sum i) (all i)) ∙ drop-append-add ks (items_of front ++ old.1 ∷ items_of back) (place + 1) ∙ ap (drop (place + 1)) after ∙ drop_at (items_of front ++ old.1 ∷ []) (items_of back) (place + 1) (omega (arith, length-append (items_of front) (old.1 ∷ []), in_values)) in
+      let same_keys : ks ≡ keys_of (front ++ (old.0, value) ∷ back) = keys_both front (old ∷ back) ∙ sym (keys_both front ((old.0, value) ∷ back)) in
+      (λ i. low i ++ value ∷ high i) ∙ append_assoc ks (items_of front) (value ∷ items_of back) ∙ (λ i. same_keys i ++ sym (items_both front ((old.0, value) ∷ back)) i)
+
+  -- a value taken out, and then its key
+  pub take_pair : (old : Bytes × Bytes) (strings shorter : List Bytes) (place count : ℕ) → strings ≡ keys_of (front ++ old ∷ back) ++ items_of (front ++ old ∷ back) → place ≡ length front → count ≡ length (front ++ old ∷ back)
+      → shorter ≡ without_at (count + place) strings
+      → without_at place shorter ≡ keys_of (front ++ back) ++ items_of (front ++ back)
+  take_pair old strings shorter place count is place_is count_is shorter_is =
+      let ks = keys_of (front ++ old ∷ back) in
+      let all : strings ≡ ks ++ (items_of front ++ old.1 ∷ items_of back) = is ∙ ap (λ r. ks ++ r) (items_both front (old ∷ back)) in
+      let n : length ks ≡ count = many_keys (front ++ old ∷ back) ∙ sym count_is in
+      let in_values : length (items_of front) ≡ place = many_items front ∙ sym place_is in
+      let in_keys : length (keys_of front) ≡ place = many_keys front ∙ sym place_is in
+      let low : take (count + place) strings ≡ ks ++ items_of front = (λ i. take (sym n i + place) (all i)) ∙ take-append-add ks (items_of front ++ old.1 ∷ items_of back) place ∙ ap (λ r. ks ++ r) (take_at (items_of front) (old.1 ∷ items_of back) place in_values) in
+      let after : items_of front ++ old.1 ∷ items_of back ≡ (items_of front ++ old.1 ∷ []) ++ items_of back = sym (append_assoc (items_of front) (old.1 ∷ []) (items_of back)) in
+      let sum : count + place + 1 ≡ length ks + (place + 1) = omega (arith, n) in
+      let high : drop (count + place + 1) strings ≡ items_of back = (λ i. drop (sum i) (all i)) ∙ drop-append-add ks (items_of front ++ old.1 ∷ items_of back) (place + 1) ∙ ap (drop (place + 1)) after ∙ drop_at (items_of front ++ old.1 ∷ []) (items_of back) (place + 1) (omega (arith, length-append (items_of front) (old.1 ∷ []), in_values)) in
+      let rest = items_of front ++ items_of back in
+      let without_value : shorter ≡ keys_of front ++ (old.0 ∷ keys_of back ++ rest) =
+      shorter_is ∙ (λ i. low i ++ high i) ∙ append_assoc ks (items_of front) (items_of back) ∙ ap (λ k. k ++ rest) (keys_both front (old ∷ back)) ∙ append_assoc (keys_of front) (old.0 ∷ keys_of back) rest in
+      let first : take place shorter ≡ keys_of front = ap (take place) without_value ∙ take_at (keys_of front) (old.0 ∷ keys_of back ++ rest) place in_keys in
+      let last : drop (place + 1) shorter ≡ keys_of back ++ rest =
+      ap (drop (place + 1)) (without_value ∙ sym (append_assoc (keys_of front) (old.0 ∷ []) (keys_of back ++ rest))) ∙ drop_at (keys_of front ++ old.0 ∷ []) (keys_of back ++ rest) (place + 1) (omega (arith, in_keys, length-append (keys_of front) (old.0 ∷ []))) in
+      (λ i. first i ++ last i) ∙ sym (append_assoc (keys_of front) (keys_of back) rest) ∙ (λ i. sym (keys_both front back) i ++ sym (items_both front back) i)
+
+-- ---- an edit at the place of a key
+
+module _ (pairs : Pairs) (strings : List Bytes) (are : strings ≡ keys_of pairs ++ items_of pairs) (key : Bytes) (at count : ℕ) (count_is : count ≡ length pairs) where
+  abbrev none : Bytes × Bytes
+  none = ([], [])
+
+  parts_at : at < length pairs → take at pairs ++ get_or pairs at none ∷ drop (at + 1) pairs ≡ pairs
+  parts_at lt = ap (λ rest. take at pairs ++ rest) (sym (drop_more pairs at none lt)) ∙ take-append-drop at pairs
+
+  pub value_put : (value : Bytes) → StandsAt pairs key at → HoldsAt (λ pair. pair.0 ≡ key) pairs at → take (count + at) strings ++ value ∷ drop (count + at + 1) strings ≡ keys_of (set_pair key value pairs) ++ items_of (set_pair key value pairs)
+  value_put value stands same =
+      let split = parts_at stands.within in
+      let front = take at pairs in
+      let back = drop (at + 1) pairs in
+      let many : at ≡ length front = sym (length-take-le at pairs (omega (arith, stands.within))) in
+      let whole : front ++ get_or pairs at none ∷ back ≡ pairs = split in
+      let before : front ≡ pairs_below key pairs = stands.before in
+      let after : back ≡ pairs_above key pairs = stands.after in
+      let is : (get_or pairs at none).0 ≡ key = same none in
+      let after_is : front ++ ((get_or pairs at none).0, value) ∷ back ≡ set_pair key value pairs = λ i. before i ++ (is i, value) ∷ after i in
+      put_value front back (get_or pairs at none) value strings at count (are ∙ ap (λ ps. keys_of ps ++ items_of ps) (sym whole)) many (count_is ∙ ap length (sym whole)) ∙ ap (λ ps. keys_of ps ++ items_of ps) after_is
+
+  pub pair_put : (value : Bytes) → IsGap pairs key at → with_at at key (with_at (count + at) value strings) ≡ keys_of (set_pair key value pairs) ++ items_of (set_pair key value pairs)
+  pair_put value gap =
+      let front = take at pairs in
+      let back = drop at pairs in
+      let whole : front ++ back ≡ pairs = take-append-drop at pairs in
+      let many : at ≡ length front = sym (length-take-le at pairs gap.within) in
+      let before : front ≡ pairs_below key pairs = gap.before in
+      let after : back ≡ pairs_above key pairs = gap.after in
+      let after_is : front ++ (key, value) ∷ back ≡ set_pair key value pairs = λ i. before i ++ (key, value) ∷ after i in
+      put_pair front back key value strings (with_at (count + at) value strings) at count (are ∙ ap (λ ps. keys_of ps ++ items_of ps) (sym whole)) many (count_is ∙ ap length (sym whole)) refl ∙ ap (λ ps. keys_of ps ++ items_of ps) after_is
+
+  pub pair_taken : StandsAt pairs key at → without_at at (without_at (count + at) strings) ≡ keys_of (del_pair key pairs) ++ items_of (del_pair key pairs)
+  pair_taken stands =
+      let whole = parts_at stands.within in
+      let front = take at pairs in
+      let back = drop (at + 1) pairs in
+      let many : at ≡ length front = sym (length-take-le at pairs (omega (arith, stands.within))) in
+      let before : front ≡ pairs_below key pairs = stands.before in
+      let after : back ≡ pairs_above key pairs = stands.after in
+      let after_is : front ++ back ≡ del_pair key pairs = λ i. before i ++ after i in
+      take_pair front back (get_or pairs at none) strings (without_at (count + at) strings) at count (are ∙ ap (λ ps. keys_of ps ++ items_of ps) (sym whole)) many (count_is ∙ ap length (sym whole)) refl ∙ ap (λ ps. keys_of ps ++ items_of ps) after_is
+
+-- how many pairs there are then
+module _ (key value : Bytes) (pairs : Pairs) (i : ℕ) where
+  many_parts : (front back : Pairs) (n m : ℕ) → front ≡ pairs_below key pairs → back ≡ pairs_above key pairs → length front ≡ n → length back ≡ m → length (set_pair key value pairs) ≡ n + suc m
+  many_parts front back n m before after first last =
+      omega (arith, length-append (pairs_below key pairs) ((key, value) ∷ pairs_above key pairs), ap length before, ap length after, first, last)
+
+  many_there : StandsAt pairs key i → length (set_pair key value pairs) ≡ length pairs
+  many_there stands =
+      let all = many_parts (take i pairs) (drop (i + 1) pairs) i (length pairs - (i + 1)) stands.before stands.after (length-take-le i pairs (omega (arith, stands.within))) (length-drop (i + 1) pairs) in
+      omega (arith, all, stands.within)
+
+  many_more : IsGap pairs key i → length (set_pair key value pairs) ≡ length pairs + 1
+  many_more gap =
+      let all = many_parts (take i pairs) (drop i pairs) i (length pairs - i) gap.before gap.after (length-take-le i pairs gap.within) (length-drop i pairs) in
+      omega (arith, all, gap.within)
+
+-- where a leaf is full, there is room just for a key that is there
+pub room_so : (key value : Bytes) (pairs : Pairs) (limit : ℕ) (r : Result ℕ ℕ) → length pairs ≡ limit → IfOk r (StandsAt pairs key) → IfErr r (IsGap pairs key) → IsTrue (is_ok r) ↔ (length (set_pair key value pairs) ≤ limit)
+room_so key value pairs limit (Ok i) full there missing = (λ yes. omega (arith, full, many_there key value pairs i there), λ le. refl)
+room_so key value pairs limit (Err i) full there missing = (λ yes. absurd cc, λ le. absurd (omega (arith, full, le, many_more key value pairs i missing)))
+
+-- where it was made, the strings are those of other pairs; where it was refused, they are as before
+module _ {T E : Type 0} (strings new : List Bytes) (after : Pairs) where
+  pub leaf_after : (r : Result T E) → IsLeaf strings → HasPairs IsWithinLimit after → OnOk r (new ≡ keys_of after ++ items_of after) → OnErr r (new ≡ strings) → IsLeaf new
+  leaf_after (Ok x) leaf has ok err = is_leaf after new ok has
+  leaf_after (Err e) leaf has ok err = subst IsLeaf (sym err) leaf
+
+  pub pairs_after : (r : Result T E) → OnOk r (new ≡ keys_of after ++ items_of after) → OnOk r (paired new ≡ after)
+  pairs_after (Ok x) ok = paired_so after new ok
+  pairs_after (Err e) ok = tt
+
+  pub on_ok_is : (r : Result T E) (made : List Bytes) → made ≡ keys_of after ++ items_of after → OnOk r (new ≡ made) → OnOk r (new ≡ keys_of after ++ items_of after)
+  on_ok_is (Ok x) made is ok = ok ∙ is
+  on_ok_is (Err e) made is ok = tt
+
+-- ---- pairs from one place to another
+
+keys_restored : (front : Bytes) (skipped : ℕ) (pairs : Pairs) → keys_of (restored front skipped pairs) ≡ map (λ pair. drop skipped (front ++ pair.0)) pairs
+keys_restored front skipped [] = refl
+keys_restored front skipped (pair ∷ pairs) = ap (λ rest. drop skipped (front ++ pair.0) ∷ rest) (keys_restored front skipped pairs)
+
+module _ (pairs : Pairs) (from i : ℕ) (key value : Bytes) (order : from ≤ i) (there : slice_get pairs i ≡ Some (key, value)) where
+  within_pairs : i < length pairs
+  within_pairs = slice_get_within pairs i (key, value) there
+
+  in_rest : i - from < length (drop from pairs)
+  in_rest = omega (arith, within_pairs, length-drop from pairs)
+
+  here_in_rest : (d : Bytes × Bytes) → get_or (drop from pairs) (i - from) d ≡ (key, value)
+  here_in_rest d =
+      let place : from + (i - from) ≡ i = omega arith in
+      get_or-drop from pairs (i - from) d ∙ ap (λ n. get_or pairs n d) place ∙ get_or_from_slice_get pairs i (key, value) d there
+
+  -- one pair more
+  map_on : (f : Bytes × Bytes → Bytes) → map f (take (i + 1 - from) (drop from pairs)) ≡ map f (take (i - from) (drop from pairs)) ++ f (key, value) ∷ []
+  map_on f =
+      let next : i + 1 - from ≡ i - from + 1 = omega arith in
+      ap (λ n. map f (take n (drop from pairs))) next ∙ map_more f (drop from pairs) (i - from) (key, value) in_rest ∙ ap (λ p. map f (take (i - from) (drop from pairs)) ++ f p ∷ []) (here_in_rest (key, value))
+
+  pub items_on : items_of (take (i + 1 - from) (drop from pairs)) ≡ items_of (take (i - from) (drop from pairs)) ++ value ∷ []
+  items_on = map_on (λ pair. pair.1)
+
+  module _ (front : Bytes) (skipped : ℕ) where
+    pub keys_on : keys_of (restored front skipped (take (i + 1 - from) (drop from pairs))) ≡ keys_of (restored front skipped (take (i - from) (drop from pairs))) ++ drop skipped (front ++ key) ∷ []
+    keys_on = keys_restored front skipped (take (i + 1 - from) (drop from pairs)) ∙ map_on (λ pair. drop skipped (front ++ pair.0)) ∙ ap (λ ks. ks ++ drop skipped (front ++ key) ∷ []) (sym (keys_restored front skipped (take (i - from) (drop from pairs))))
+
+    -- a key of theirs is as short as all are
+    pub key_short : (to : ℕ) → i < to → AllByRecursion (λ pair. IsWithinLimit pair.0) (restored front skipped (take (to - from) (drop from pairs))) → IsWithinLimit (drop skipped (front ++ key))
+    key_short to before all =
+        let some = take (to - from) (drop from pairs) in
+        let store : Bytes × Bytes → Bytes × Bytes = λ pair. (drop skipped (front ++ pair.0), pair.1) in
+        let within : i - from < length some = omega (arith, in_rest, length-take (to - from) (drop from pairs)) in
+        let is : get_or some (i - from) (key, value) ≡ (key, value) = get_or-take (to - from) (drop from pairs) (i - from) (key, value) (omega arith) ∙ here_in_rest (key, value) in
+        let same : get_or (restored front skipped some) (i - from) (key, value) ≡ store (key, value) = get_or-map store some (i - from) (key, value) (key, value) within ∙ ap store is in
+        subst (λ p. IsWithinLimit p.0) same (all_at (λ pair. IsWithinLimit pair.0) (restored front skipped some) (i - from) (key, value) all (omega (arith, within, length-map some store)))
+
+-- ---- what holds of each string
+
+pub short_keys : (pairs : Pairs) → AllByRecursion IsWithinLimit (keys_of pairs) → AllByRecursion (λ pair. IsWithinLimit pair.0) pairs
+short_keys [] all = tt
+short_keys (pair ∷ pairs) all = (all.0, short_keys pairs all.1)
+
+pub short_items : (pairs : Pairs) → AllByRecursion IsWithinLimit (items_of pairs) → AllByRecursion (λ pair. IsWithinLimit pair.1) pairs
+short_items [] all = tt
+short_items (pair ∷ pairs) all = (all.0, short_items pairs all.1)
+
+module _ (strings : List Bytes) (pairs : Pairs) (are : strings ≡ keys_of pairs ++ items_of pairs) where
+  pub short_parts : AllByRecursion IsWithinLimit strings → AllByRecursion (λ pair. IsWithinLimit pair.0) pairs × AllByRecursion (λ pair. IsWithinLimit pair.1) pairs
+  short_parts all =
+      let both = all_parts IsWithinLimit (keys_of pairs) (items_of pairs) (subst (AllByRecursion IsWithinLimit) are all) in
+      (short_keys pairs both.0, short_items pairs both.1)
+
+  pub short_both : AllByRecursion (λ pair. IsWithinLimit pair.0) pairs → AllByRecursion (λ pair. IsWithinLimit pair.1) pairs → AllByRecursion IsWithinLimit strings
+  short_both keys items =
+      subst (AllByRecursion IsWithinLimit) (sym are) (all_append IsWithinLimit (keys_of pairs) (items_of pairs) (all_keys (λ key short. short) pairs keys) (all_items (λ item short. short) pairs items))
+
+-- none is longer than all of them are as they are written
+pub short_together : (strings : List Bytes) → length (flat_map written_bytes strings) ≤ 2147483647 → AllByRecursion IsWithinLimit strings
+short_together [] few = tt
+short_together (string ∷ strings) few =
+    let all = length-append (written_bytes string) (flat_map written_bytes strings) in
+    let one = length-append (written_u64 (length string)) string in
+    (omega (arith, few, all, one), short_together strings (omega (arith, few, all)))
+
+-- one pair rises
+pub one_rises : (pairs : Pairs) → IsAscending (take 1 pairs)
+one_rises [] = tt
+one_rises (pair ∷ pairs) = (tt, tt)
+
+-- ---- what is made of pairs that are given
+
+pub items_restored : (front : Bytes) (skipped : ℕ) (pairs : Pairs) → items_of (restored front skipped pairs) ≡ items_of pairs
+items_restored front skipped [] = refl
+items_restored front skipped (pair ∷ pairs) = ap (λ rest. pair.1 ∷ rest) (items_restored front skipped pairs)
+
+-- all of the pairs
+pub all_taken : (pairs : Pairs) (n : ℕ) → n ≡ length pairs → take (n - 0) pairs ≡ pairs
+all_taken pairs n is = let same : n - 0 ≡ length pairs = omega arith in ap (λ k. take k pairs) same ∙ take_all (length pairs) pairs (omega arith)
+
+-- the keys of both, and then the values of both
+pub joined_strings : (front right_front : Bytes) (skipped : ℕ) (left right : Pairs)
+    → (((keys_of (restored front skipped left)) ++ keys_of (restored right_front skipped right)) ++ items_of left) ++ items_of right
+    ≡ keys_of (restored front skipped left ++ restored right_front skipped right) ++ items_of (restored front skipped left ++ restored right_front skipped right)
+joined_strings front right_front skipped left right =
+    let xs = restored front skipped left in
+    let ys = restored right_front skipped right in
+    append_assoc (keys_of xs ++ keys_of ys) (items_of left) (items_of right) ∙ (λ i. sym (keys_both xs ys) i ++ (sym (items_restored front skipped left) i ++ sym (items_restored right_front skipped right) i)) ∙ ap (λ items. keys_of (xs ++ ys) ++ items) (sym (items_both xs ys))

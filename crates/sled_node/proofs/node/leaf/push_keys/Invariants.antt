@@ -1,0 +1,6 @@
+use Rattle.std.proofs.Common.{◌≡◌, ◌++◌, take}
+use Rattle.sled_node.specs.Payloads.Pairs.{keys_of}
+use Rattle.sled_node.proofs.node.leaf.push_keys.Given as goal
+
+abbrev pub invariant-loop-pair : goal.invariant-loop-pair
+invariant-loop-pair l = l.strings ≡ l.initial.strings ++ keys_of (take l.pair-index l.pairs)
