@@ -1,0 +1,86 @@
+//! Worked examples of the definitions: small trees, page by page, and pages that are none.
+
+ghost use Rattle.std.specs.Prelude.{◌≡◌, [], ◌∷◌, ◌++◌, take, Some, None};
+ghost use Rattle.std.specs.declared.ops.Bound.TheVariants.{Included, Excluded, Unbounded};
+ghost use Rattle.sled_log.specs.Contents.{contents_after};
+ghost use Rattle.sled_search.specs.Calls.{AreCalls, changes_of, maps_after};
+ghost use Rattle.sled_search.specs.Changes.{Passes};
+ghost use Rattle.sled_search.specs.Examples.{one, root, new_tree, one_leaf, half_way, two_leaves, three_pairs, sets, split, four_calls, two_trees, one_leaf_of_two, part_lost, led_astray, not_cut, pair_lost};
+ghost use Rattle.sled_search.specs.Map.{Map, at_key, leading};
+ghost use Rattle.sled_search.specs.Maps.{no_maps, with_map, AreTrees};
+ghost use Rattle.sled_search.specs.Ordered.{IsNextAbove, IsNextBelow, IsLeafBefore, GoesBefore};
+ghost use Rattle.sled_search.specs.Search.{HasNodeAt, Finds, HasAt, ComesToValue, IsTreeOf};
+
+/// Of pairs at 1, 3 and 5 one is at 3, none at 4, and the one at 3 leads both; none leads 0.
+pub fn pairs_at_a_key()
+    ensures there { at_key three_pairs (one 3) ≡ Some (one 30) }
+    ensures missing { at_key three_pairs (one 4) ≡ None }
+    ensures leads_itself { leading three_pairs (one 3) ≡ Some (one 30) }
+    ensures leads_the_next { leading three_pairs (one 4) ≡ Some (one 30) }
+    ensures leads_below { leading three_pairs (one 0) ≡ None }
+{}
+
+/// Three keys are set in a new tree, and its leaf is split: what the pages are then, and which map the tree is behind each change.
+pub fn a_tree_that_grows()
+    ensures filled { contents_after new_tree sets ≡ one_leaf }
+    ensures split { contents_after one_leaf split ≡ two_leaves }
+    ensures maps { Passes new_tree root [] (sets ++ split) (
+        ((one 5, one 50) ∷ [])
+        ∷ ((one 1, one 10) ∷ (one 5, one 50) ∷ [])
+        ∷ three_pairs ∷ three_pairs ∷ three_pairs ∷ three_pairs ∷ []) }
+{}
+
+/// The same changes as four calls: three that set a key, by one change each, and one that splits the leaf by three changes. With two of these
+/// three the pages are what they were before that call.
+pub fn calls_of_several_changes()
+    ensures calls { AreCalls new_tree (with_map root [] no_maps) four_calls }
+    ensures changes { changes_of four_calls ≡ sets ++ split }
+    ensures cut { AreTrees (contents_after new_tree (take 5 (changes_of four_calls))) (maps_after (with_map root [] no_maps) (take 3 four_calls)) }
+{}
+
+/// An index over two leaves: a search goes down to a leaf, in one turn, and is answered by what that has.
+pub fn an_index_over_two_leaves()
+    ensures left { Finds two_leaves (one 3) (λ pid n. (pid ≡ 2) × HasAt (one 3) (Some (one 30)) n) 1 root }
+    ensures right { Finds two_leaves (one 5) (λ pid n. (pid ≡ 4) × HasAt (one 5) (Some (one 50)) n) 1 root }
+    ensures missing { ComesToValue two_leaves (one 4) None root }
+    ensures tree { IsTreeOf two_leaves root three_pairs }
+{}
+
+/// A leaf that is split before the index leads to its right part: a search for a key of that part turns right at the left one.
+pub fn a_split_before_its_child_is_added()
+    ensures left { Finds half_way (one 3) (λ pid n. (pid ≡ 2) × HasAt (one 3) (Some (one 30)) n) 1 root }
+    ensures right { Finds half_way (one 5) (λ pid n. (pid ≡ 4) × HasAt (one 5) (Some (one 50)) n) 2 root }
+    ensures tree { IsTreeOf half_way root three_pairs }
+{}
+
+/// Of the pairs at 1, 3 and 5 those next to a bound; and the keys right before 5 are in the left leaf, whose end 5 is.
+pub fn pairs_next_to_a_bound()
+    ensures behind { IsNextAbove three_pairs (Excluded (one 3)) (Some (one 5, one 50)) }
+    ensures from { IsNextAbove three_pairs (Included (one 3)) (Some (one 3, one 30)) }
+    ensures no_more { IsNextAbove three_pairs (Excluded (one 5)) None }
+    ensures before { IsNextBelow three_pairs (Excluded (one 5)) (Some (one 3, one 30)) }
+    ensures last { IsNextBelow three_pairs Unbounded (Some (one 5, one 50)) }
+    ensures search { GoesBefore two_leaves (Excluded (one 5)) 1 root 2 }
+    ensures leaf { HasNodeAt two_leaves 2 (IsLeafBefore (Excluded (one 5))) }
+{}
+
+/// Two roots, each over a leaf of its own, are two maps. Over one leaf each is a tree, and they are not two maps: what is set in one would be
+/// set in the other.
+pub fn two_roots()
+    ensures two { AreTrees two_trees (with_map 5 [] (with_map 3 [] no_maps)) }
+    ensures each { IsTreeOf one_leaf_of_two 3 [] × IsTreeOf one_leaf_of_two 4 [] }
+    ensures not_two { AreTrees one_leaf_of_two (with_map 4 [] (with_map 3 [] no_maps)) → ⊥ }
+{}
+
+/// Pages that are no tree at all: where the left part of a split leads nowhere, where an index leads keys to a node that doesn't have them,
+/// and where two leaves have the same keys in their ranges.
+pub fn pages_that_are_no_tree()
+    ensures part_lost { (m : Map) → IsTreeOf part_lost root m → ⊥ }
+    ensures led_astray { (m : Map) → IsTreeOf led_astray root m → ⊥ }
+    ensures not_cut { (m : Map) → IsTreeOf not_cut root m → ⊥ }
+{}
+
+/// A tree that is no other map: one that lost a pair.
+pub fn a_tree_that_is_another_map()
+    ensures { IsTreeOf pair_lost root three_pairs → ⊥ }
+{}
