@@ -34,7 +34,7 @@ compile no_memory "$out/dilluvas_file.c" -Wl,--wrap=malloc,--wrap=calloc,--wrap=
 failing=-Wl,--wrap=pread,--wrap=pwrite,--wrap=fdatasync,--wrap=fsync,--wrap=rename,--wrap=link
 compile file "$here/c/failing.c" "$out/dilluvas_file.c" "$failing"
 "$out/file" "$files"
-for name in compact compact_failing processes; do
+for name in compact compact_failing abandoned processes; do
     compile "$name" "$here/c/steps.c" "$here/c/failing.c" "$out/dilluvas_file.c" "$failing"
     "$out/$name" "$files"
 done
@@ -44,14 +44,14 @@ compile paths "$out/dilluvas_file.c" -Wl,--wrap=pread,--wrap=fdatasync,--wrap=fs
 "$out/paths" "$files"
 rm -rf "$files/paths"
 compile killed "$out/dilluvas_file.c" -Wl,--wrap=pwrite,--wrap=fdatasync,--wrap=fsync,--wrap=rename
-"$out/killed" "$files" 200
+"$out/killed" "$files" 300
 "$here/races.sh"
 "$here/races.sh" 2
 compile script "$here/c/script_lines.c" "$out/dilluvas_file.c"
 awk -v seed=1 -v lines=300 -v parts=1 -v name="$files/script" -v over_file=0 -v moves=1 -f "$here/scripts.awk"
 if command -v valgrind >/dev/null; then
     for program in calls "no_memory $files" "file $files" "compact $files" \
-        "compact_failing $files" "processes $files" "meanwhile $files" "paths $files" 'script mem' "script file $files/log"; do
+        "compact_failing $files" "abandoned $files" "processes $files" "meanwhile $files" "paths $files" 'script mem' "script file $files/log"; do
         # shellcheck disable=SC2086 # a program and its arguments
         valgrind -q --child-silent-after-fork=yes --error-exitcode=1 --leak-check=full --show-leak-kinds=all "$out/"$program \
             <"$files/script.1" >/dev/null
@@ -75,6 +75,7 @@ if command -v python3 >/dev/null; then
         -Wl,--whole-archive "$out/libdilluvas.a" -Wl,--no-whole-archive -Wl,--wrap=malloc,--wrap=calloc,--wrap=realloc
     DILLUVAS_SO=$out/libhooked.so python3 "$here/python/model.py" 0 50
     for name in dilluvas hooked; do
+        DILLUVAS_SO=$out/lib$name.so python3 "$here/python/abandoned.py"
         DILLUVAS_SO=$out/lib$name.so python3 "$here/python/forgetful.py"
     done
     echo 'Python: passed'

@@ -1,0 +1,103 @@
+#!/bin/sh
+# Unpacks the archive of a release into an empty folder, with no toolchain on the PATH, and uses it as a user would: its sums are right, the
+# program answers a script, and README's three programs, in C, Rust and Python, are built against it and run. It says what isn't there.
+#
+#     tools/released.sh ARCHIVE
+#
+# The status is 0 where all is as it has to be, and else 1.
+set -eu
+
+top=$(CDPATH='' cd -- "$(dirname -- "$0")/.." && pwd)
+archive=$(readlink -f -- "$1")
+work=$(mktemp -d)
+trap 'rm -rf "$work"' EXIT
+trap 'exit 1' HUP INT PIPE TERM
+cd "$work"
+
+fail() {
+    echo "released.sh: $1"
+    exit 1
+}
+
+# The PATH, where each folder that has the toolchain's command is one of links to all else.
+path_without_rt() {
+    number=0
+    IFS=:
+    for folder in $PATH; do
+        if [ -e "$folder/rt" ]; then
+            number=$((number + 1))
+            mkdir "$work/path.$number"
+            ln -s "$folder"/* "$work/path.$number/"
+            rm "$work/path.$number/rt"
+            folder=$work/path.$number
+        fi
+        printf '%s:' "$folder"
+    done
+}
+
+# says NAME: what a program has printed is what README says of it.
+says() {
+    [ "$(cat said)" = 'key = value' ] || fail "README's program in $1 prints otherwise: $(cat said)"
+    rm -f pages
+    tried="$tried $1"
+}
+
+in_c() {
+    "${CC:-cc}" -I"$to/include" -o readme "$top/bindings/c/readme.c" "$to/share/dilluvas/dilluvas_file.c" "$to/lib/libdilluvas.a"
+    ./readme >said
+    says C
+    if command -v pkg-config >/dev/null; then
+        export PKG_CONFIG_PATH="$to/lib/pkgconfig"
+        # shellcheck disable=SC2046 # several words
+        "${CC:-cc}" -o readme "$top/bindings/c/readme.c" "$(pkg-config --variable=file_c dilluvas)" $(pkg-config --cflags --libs dilluvas)
+        LD_LIBRARY_PATH=$to/lib ./readme >said
+        says pkg-config
+    fi
+}
+
+in_rust() {
+    mkdir -p program/src
+    cp "$top/bindings/rust/examples/readme.rs" program/src/main.rs
+    printf '[package]\nname = "program"\nversion = "0.0.0"\nedition = "2024"\n\n[dependencies]\ndilluvas = { path = "%s/rust" }\n' "$to" >program/Cargo.toml
+    CARGO_TARGET_DIR=$work/target cargo run -q --offline --manifest-path program/Cargo.toml >said
+    says Rust
+}
+
+in_python() {
+    python3 -m zipfile -e "$to"/python/dilluvas-*.whl site
+    PYTHONPATH=$work/site python3 "$top/bindings/python/readme.py" >said
+    says Python
+    if python3 -m pip --version >/dev/null 2>&1; then
+        python3 -m pip install -q --no-cache-dir --no-index --no-deps --disable-pip-version-check --root-user-action ignore --target installed "$to"/python/dilluvas-*.whl
+        PYTHONPATH=$work/installed python3 "$top/bindings/python/readme.py" >said
+        says pip
+    fi
+}
+
+PATH=$(path_without_rt)
+export PATH PYTHONDONTWRITEBYTECODE=1
+unset DILLUVAS_SO DILLUVAS_LIB_DIR
+! command -v rt >/dev/null || fail "the toolchain's command is still on the PATH"
+tar -xzf "$archive"
+to=$work/$(basename "$archive" .tar.gz)
+(cd "$to" && sha256sum --quiet --strict -c SUMS) || fail 'its sums are wrong'
+grep -q '^sledpc .*logic=proved ' "$to/PROVED" || fail 'PROVED has no line of the program'
+
+printf 'alloc\nset 2 1 62 76\nget 2\nset 2 1 63 77\n' | "$to/bin/sledpc" mem >said
+[ "$(cat said)" = "$(printf 'page 2 1\nok 2\nleaf 2 62=76\nstale 2')" ] || fail "the program replies otherwise: $(cat said)"
+printf 'alloc 61=62\nflush\n' | "$to/bin/sledpc" file pages.log >said
+[ "$(echo 'get 2' | "$to/bin/sledpc" file pages.log)" = 'leaf 0 61=62' ] || fail 'what was flushed is not there'
+
+tried=' the program'
+for tool in "${CC:-cc}" cargo python3; do
+    if ! command -v "$tool" >/dev/null; then
+        echo "released.sh: there is no $tool, so a program was left out"
+        continue
+    fi
+    case $tool in
+    cargo) in_rust ;;
+    python3) in_python ;;
+    *) in_c ;;
+    esac
+done
+echo "released.sh: passed (${tried# })"
