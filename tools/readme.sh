@@ -9,6 +9,8 @@
 #   crates/sledpc/stdout), or is a row of the tests of the program; over a file the runs of a block are the first rows of a test, one
 #   after another; and so is one of a crew;
 # - each other command of a session is there;
+# - the minutes by crate of README's section 'Build it' are those of the table of docs/dev/GATE.md, and each crate of the program and of the
+#   library for other languages has its row;
 # - each program of crates/example_* has its session in examples/README.md, with what it writes (its file stdout, which the gate
 #   compares with its runs), and each block of code there stands in a source or a proof of one of them;
 # - each file of a crate's specs has its line in docs/dev/SPECS.md;
@@ -195,6 +197,23 @@ compare_sessions() {
     compare_file_runs
 }
 
+# The minutes of a proof by crate, in the rows of a section: $1 is its heading, $2 the page, and $3 the cell of the minutes.
+minutes_of() {
+    awk -v heading="$1" -v at="$3" '
+        /^##/ { inside = $0 == heading }
+        inside && split($0, part, "|") > 4 && part[2] ~ /^ `/ { gsub(/[ `]/, "", part[2]); print part[2], part[at] + 0 }
+    ' "$2" | LC_ALL=C sort
+}
+
+compare_minutes() {
+    minutes_of '## Build it' README.md 3 >"$work/minutes"
+    minutes_of '## Budget' docs/dev/GATE.md 3 >"$work/cells"
+    { tools/sum.sh --crates sledpc && tools/sum.sh --crates sled_c; } | LC_ALL=C sort -u >"$work/built"
+    cut -d ' ' -f 1 "$work/minutes" | cmp -s - "$work/built" || differ "the rows of 'Build it' are not the crates that are built"
+    LC_ALL=C comm -23 "$work/minutes" "$work/cells" >"$work/diff"
+    [ ! -s "$work/diff" ] || differ "minutes of 'Build it' are not those of docs/dev/GATE.md: $(tr '\n' ';' <"$work/diff")"
+}
+
 # Whether the lines of the file $1 stand in the file $2, one after another.
 stands_in() {
     awk '
@@ -288,6 +307,7 @@ compare_rust
 compare_bindings
 compare_sessions
 compare_definitions
+compare_minutes
 tell_faults
 cut_page examples/README.md
 compare_examples

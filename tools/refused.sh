@@ -4,19 +4,22 @@
 # - a script through `sledpc`, over a log in memory and over a file: what it replies, and the file, are those of the script without the line
 #   that is replied to by `error memory`;
 # - `sledpc crew`, which answers all its calls or `error memory`;
-# - tests of the cache, and of the cache that threads share, whose calls change nothing where they are refused, and are made again.
+# - tests of nodes, of the log on a disk, of the cache, and of the cache that threads share, whose calls change nothing where they are refused,
+#   and are made again.
 #
 #     tools/refused.sh
 #
-# It takes the program and the tests that `rt ci` has built, or `rt run` in crates/sledpc and `rt test` in crates/sled_pagecache_tests and in
-# crates/sled_shared_tests. The status is 0 where all is so.
+# It takes the program and the tests that `rt ci` has built, or `rt run` in crates/sledpc and `rt test` in crates/sled_node_tests, in
+# crates/sled_disk_tests, in crates/sled_pagecache_tests and in crates/sled_shared_tests. The status is 0 where all is so.
 set -eu
 
 top=$(CDPATH='' cd -- "$(dirname -- "$0")/.." && pwd)
 program=$top/crates/sledpc/out/sledpc
+node=$top/crates/sled_node_tests/out/sled_node_tests_tests
+disk=$top/crates/sled_disk_tests/out/sled_disk_tests_tests
 cache=$top/crates/sled_pagecache_tests/out/sled_pagecache_tests_tests
 shared=$top/crates/sled_shared_tests/out/sled_shared_tests_tests
-for built in "$program" "$cache" "$shared"; do
+for built in "$program" "$node" "$disk" "$cache" "$shared"; do
     [ -x "$built" ] || { echo "refused.sh: there is no program $built"; exit 1; }
 done
 
@@ -277,6 +280,12 @@ each_of_test() {
 
 each_of_tests() {
     refused=0
+    each_of_test "$node" refused::a_refused_allocation_leaves_a_leaf
+    for name in closing::a_refused_allocation_leaves_the_changes_of_a_batch \
+        staged::logs::a_staged_log_abandons_a_batch_as_a_log_in_memory_does \
+        staged::logs::a_staged_log_writes_what_a_log_in_memory_does; do
+        each_of_test "$disk" "$name"
+    done
     for name in faults::refuse_each_allocation memory::a_refused_allocation_leaves_a_batch_whole \
         memory::a_refused_allocation_leaves_what_was_made_of_a_tree memory::a_refused_allocation_uses_no_id \
         memory::refused_allocations_change_nothing rewriting::a_refused_allocation_leaves_the_next_rewriting \
