@@ -3,7 +3,7 @@ use Rattle.std.proofs.Common.{inl, ℕ, List, [], ◌∷◌, ◌++◌, None, Som
 use Rattle.sled_log.specs.Contents.{Content, Update, Put, Link, Node, contents_after}
 use Rattle.sled_log.specs.Events.{Event, Change}
 use Rattle.sled_node.specs.declared.node.link.Link.TheVariants.{Set}
-use Rattle.sled_search.specs.Calls.{Becomes, AreCalls, changes_of, maps_after}
+use Rattle.sled_search.specs.Calls.{Becomes, AreCalls, changes_of, left_by}
 use Rattle.sled_search.specs.Examples.{one, leaf, over_two, root, new_tree, one_leaf, half_way, two_leaves, three_pairs, split, alone, four_calls}
 use Rattle.sled_search.specs.Map.{Map}
 use Rattle.sled_search.specs.Maps.{AreTrees}
@@ -24,27 +24,27 @@ m2 = (one 1, one 10) ∷ (one 5, one 50) ∷ []
 abbrev set : ℕ → ℕ → Event Update
 set key value = Change 2 (Link (Set (one key) (one value)))
 
-split-call : Becomes one_leaf (alone three_pairs) split (alone three_pairs)
+split-call : Becomes AreTrees one_leaf (alone three_pairs) split (alone three_pairs)
 split-call =
     let m = alone three_pairs in
     let right = Change 4 (Put (Node (leaf (one 5) [] None ((5, 50) ∷ [])))) in
     let left = Change 2 (Put (Node (leaf [] (one 5) (Some 4) ((1, 10) ∷ (3, 30) ∷ [])))) in
     let index = Change 3 (Put (Node (over_two 2 (one 5) 4))) in
     let added = one_leaf ++ Node (leaf (one 5) [] None ((5, 50) ∷ [])) ∷ [] in
-    two-parts one_leaf m m m (right ∷ []) (left ∷ index ∷ [])
-    (one-change one_leaf m m right (trees one_leaf three_pairs with_3) (trees added three_pairs with_right))
-    (two-parts added m m m (left ∷ []) (index ∷ [])
-    (one-change added m m left (trees added three_pairs with_right) (trees half_way three_pairs halves))
-    (one-change half_way m m index (trees half_way three_pairs halves) (trees two_leaves three_pairs both))
+    two-parts AreTrees one_leaf m m m (right ∷ []) (left ∷ index ∷ [])
+    (one-change AreTrees one_leaf m m right (trees one_leaf three_pairs with_3) (trees added three_pairs with_right))
+    (two-parts AreTrees added m m m (left ∷ []) (index ∷ [])
+    (one-change AreTrees added m m left (trees added three_pairs with_right) (trees half_way three_pairs halves))
+    (one-change AreTrees half_way m m index (trees half_way three_pairs halves) (trees two_leaves three_pairs both))
     (inl refl))
     (inl refl)
 
-pub four : AreCalls new_tree (alone []) four_calls
+pub four : AreCalls AreTrees new_tree (alone []) four_calls
 four =
     let pages1 = under_root ((5, 50) ∷ []) in
     let pages2 = under_root ((1, 10) ∷ (5, 50) ∷ []) in
-    (one-change new_tree (alone []) (alone m1) (set 5 50) (trees new_tree [] empty) (trees pages1 m1 with_5), (one-change pages1 (alone m1) (alone m2) (set 1 10) (trees pages1 m1 with_5) (trees pages2 m2 with_1), (one-change pages2 (alone m2) (alone three_pairs) (set 3 30) (trees pages2 m2 with_1) (trees one_leaf three_pairs with_3), (split-call, trees two_leaves three_pairs both))))
+    (one-change AreTrees new_tree (alone []) (alone m1) (set 5 50) (trees new_tree [] empty) (trees pages1 m1 with_5), (one-change AreTrees pages1 (alone m1) (alone m2) (set 1 10) (trees pages1 m1 with_5) (trees pages2 m2 with_1), (one-change AreTrees pages2 (alone m2) (alone three_pairs) (set 3 30) (trees pages2 m2 with_1) (trees one_leaf three_pairs with_3), (split-call, trees two_leaves three_pairs both))))
 
 -- two of the three changes of the split
-pub cut : AreTrees (contents_after new_tree (take 5 (changes_of four_calls))) (maps_after (alone []) (take 3 four_calls))
+pub cut : AreTrees (contents_after new_tree (take 5 (changes_of four_calls))) (left_by (alone []) (take 3 four_calls))
 cut = trees half_way three_pairs halves

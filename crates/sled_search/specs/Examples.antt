@@ -82,7 +82,7 @@ split =
 abbrev pub alone : Map → Maps
 alone m = with_map root m no_maps
 
-abbrev pub four_calls : List Call
+abbrev pub four_calls : List (Call Maps)
 four_calls =
     (Change 2 (Link (Set (one 5) (one 50))) ∷ [], alone ((one 5, one 50) ∷ []))
     ∷ (Change 2 (Link (Set (one 1) (one 10))) ∷ [], alone ((one 1, one 10) ∷ (one 5, one 50) ∷ []))

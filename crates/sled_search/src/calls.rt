@@ -3,31 +3,31 @@
 ghost use Rattle.std.specs.Prelude.{◌≡◌, ◌≤◌, ℕ, List, [], ◌∷◌, ◌++◌, length};
 ghost use Rattle.sled_log.specs.Contents.{Content, Update, contents_from, contents_after};
 ghost use Rattle.sled_log.specs.Events.{Event};
-ghost use Rattle.sled_search.specs.Calls.{Becomes, Call, AreCalls, changes_of, maps_after, ArePrefixOf};
+ghost use Rattle.sled_search.specs.Calls.{Becomes, Call, AreCalls, changes_of, left_by, ArePrefixOf};
 ghost use Rattle.sled_search.specs.Maps.{Maps, AreTrees};
 
 /// Behind a prefix of the changes of calls the pages are the maps behind a prefix of the calls, which has each call whose changes are all
 /// there: so that is what a crash leaves.
 pub fn a_part_of_the_changes_is_a_part_of_the_calls()
-    ensures { (pages : List Content) (maps : Maps) (calls : List Call) → AreCalls pages maps calls
-        → (n : ℕ) → n ≤ length (changes_of calls) → ArePrefixOf pages maps calls n }
+    ensures { (pages : List Content) (maps : Maps) (calls : List (Call Maps)) → AreCalls AreTrees pages maps calls
+        → (n : ℕ) → n ≤ length (changes_of calls) → ArePrefixOf AreTrees pages maps calls n }
 {}
 
 /// A call makes changes one after another, of which at most one makes other maps; and calls behind calls are calls in a row.
 pub fn changes_make_a_call()
     ensures none { (pages : List Content) (maps : Maps) → AreTrees pages maps
-        → Becomes pages maps [] maps }
+        → Becomes AreTrees pages maps [] maps }
     ensures one { (pages : List Content) (old new : Maps) (event : Event Update)
         → AreTrees pages old → AreTrees (contents_from pages event) new
-        → Becomes pages old (event ∷ []) new }
+        → Becomes AreTrees pages old (event ∷ []) new }
     ensures kept_first { (pages : List Content) (old new : Maps) (us vs : List (Event Update))
-        → Becomes pages old us old → Becomes (contents_after pages us) old vs new
-        → Becomes pages old (us ++ vs) new }
+        → Becomes AreTrees pages old us old → Becomes AreTrees (contents_after pages us) old vs new
+        → Becomes AreTrees pages old (us ++ vs) new }
     ensures kept_last { (pages : List Content) (old new : Maps) (us vs : List (Event Update))
-        → Becomes pages old us new → Becomes (contents_after pages us) new vs new
-        → Becomes pages old (us ++ vs) new }
-    ensures row { (pages : List Content) (maps : Maps) (xs ys : List Call)
-        → AreCalls pages maps xs
-        → AreCalls (contents_after pages (changes_of xs)) (maps_after maps xs) ys
-        → AreCalls pages maps (xs ++ ys) }
+        → Becomes AreTrees pages old us new → Becomes AreTrees (contents_after pages us) new vs new
+        → Becomes AreTrees pages old (us ++ vs) new }
+    ensures row { (pages : List Content) (maps : Maps) (xs ys : List (Call Maps))
+        → AreCalls AreTrees pages maps xs
+        → AreCalls AreTrees (contents_after pages (changes_of xs)) (left_by maps xs) ys
+        → AreCalls AreTrees pages maps (xs ++ ys) }
 {}

@@ -3,7 +3,7 @@
 ghost use Rattle.std.specs.Prelude.{◌≡◌, [], ◌∷◌, ◌++◌, take, Some, None};
 ghost use Rattle.std.specs.declared.ops.Bound.TheVariants.{Included, Excluded, Unbounded};
 ghost use Rattle.sled_log.specs.Contents.{contents_after};
-ghost use Rattle.sled_search.specs.Calls.{AreCalls, changes_of, maps_after};
+ghost use Rattle.sled_search.specs.Calls.{AreCalls, changes_of, left_by};
 ghost use Rattle.sled_search.specs.Changes.{Passes};
 ghost use Rattle.sled_search.specs.Examples.{one, root, new_tree, one_leaf, half_way, two_leaves, three_pairs, sets, split, four_calls, two_trees, one_leaf_of_two, part_lost, led_astray, not_cut, pair_lost};
 ghost use Rattle.sled_search.specs.Map.{Map, at_key, leading};
@@ -33,9 +33,9 @@ pub fn a_tree_that_grows()
 /// The same changes as four calls: three that set a key, by one change each, and one that splits the leaf by three changes. With two of these
 /// three the pages are what they were before that call.
 pub fn calls_of_several_changes()
-    ensures calls { AreCalls new_tree (with_map root [] no_maps) four_calls }
+    ensures calls { AreCalls AreTrees new_tree (with_map root [] no_maps) four_calls }
     ensures changes { changes_of four_calls ≡ sets ++ split }
-    ensures cut { AreTrees (contents_after new_tree (take 5 (changes_of four_calls))) (maps_after (with_map root [] no_maps) (take 3 four_calls)) }
+    ensures cut { AreTrees (contents_after new_tree (take 5 (changes_of four_calls))) (left_by (with_map root [] no_maps) (take 3 four_calls)) }
 {}
 
 /// An index over two leaves: a search goes down to a leaf, in one turn, and is answered by what that has.
