@@ -1,5 +1,5 @@
 #!/bin/sh
-# Prints docs/API.md: what a user of the cache, of the shared cache, and of the traits of logs and disks meets, made from the sources
+# Prints docs/API.md: what a user of the cache, of maps in it, of the shared cache, and of the traits of logs and disks meets, made from the sources
 # (api.awk) and two files that are written by hand.
 #
 #     tools/api.sh >docs/API.md
@@ -24,7 +24,7 @@ export LC_ALL=C
 
 # The sources of the crates, the root of each before its modules.
 sources() {
-    for crate in sled_base sled_node sled_log sled_disk sled_pagecache sled_shared; do
+    for crate in sled_base sled_node sled_log sled_disk sled_pagecache sled_tree sled_shared; do
         echo "crates/$crate/src/lib.rt"
         find "crates/$crate/src" -name '*.rt' ! -name lib.rt ! -name tests.rt ! -path '*/tests/*' | sort
     done

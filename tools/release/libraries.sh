@@ -3,4 +3,6 @@
 set -eu
 
 cd "$(CDPATH='' cd -- "$(dirname -- "$0")/../.." && pwd)"
-tools/sum.sh --crates sled_shared
+for top in sled_shared sled_tree; do
+    tools/sum.sh --crates "$top"
+done | awk '!seen[$0]++'

@@ -1,0 +1,120 @@
+-- What a leaf shows is so of the map that the tree is.
+use Rattle.std.proofs.Common.{◌≡◌, ◌≢◌, ◌⊎◌, inl, inr, ℕ, false, List, [], ◌++◌, None, Some, slice_get, sym, ◌∙◌, ap, subst}
+use Rattle.std.specs.declared.ops.Bound.{Bound}
+use Rattle.std.specs.declared.ops.Bound.TheVariants.{Included, Excluded}
+use Rattle.std.proofs.lemmas.List.{append-nil}
+use Rattle.sled_base.specs.Order.{Bytes}
+use Rattle.sled_log.specs.Contents.{Content, Node}
+use Rattle.sled_node.specs.Neighbours.{IsBefore}
+use Rattle.sled_node.specs.Node.{Item, WholeNode, IsInRange, IsWellFormed}
+use Rattle.sled_search.specs.Map.{Map}
+use Rattle.sled_search.specs.Ordered.{IsNextAbove, IsNextBelow, start_of, is_before}
+use Rattle.sled_search.specs.Search.{HasNodeAt, ComesToLeafOf, IsLeafOf, IsTreeOf}
+use Rattle.sled_search.proofs.Above.{empty-or-not, first-here, first-further, none-at-end}
+use Rattle.sled_search.proofs.Before.{before-down}
+use Rattle.sled_search.proofs.Below.{last-here, last-further}
+use Rattle.sled_search.proofs.Changes.{leaf-has}
+use Rattle.sled_search.proofs.Search.{leaf-there, one_node}
+use Rattle.sled_search.proofs.Separated.{never-below}
+use Rattle.sled_tree.specs.Ordered.{within, BeginsWith}
+use Rattle.sled_tree.specs.OrderedLeaves.{as_items, ComesBefore, ShowsAbove, ShowsBelow, IsNearAbove, IsNearBelow, SeesAbove, SeesBelow, ShowsPiece, IsPieceOf}
+use Rattle.sled_tree.specs.declared.neighbours.Near.{Near}
+use Rattle.sled_tree.specs.declared.neighbours.Near.TheVariants.{Pair, Further, Nothing}
+use Rattle.sled_tree.specs.declared.neighbours.pieces.Piece.{Piece}
+use Rattle.sled_tree.proofs.OrderedPieces.{end_of, leaf-pairs, same-items, within-items, piece-ends, piece-goes-on, none-past}
+
+-- ---- the pair next to a bound
+
+module _ (pages : List Content) (root : ℕ) (m : Map) (tree : IsTreeOf pages root m) (bound : Bound Bytes) (leaf : ℕ) where
+  pub near-above : ComesToLeafOf pages (start_of bound) (start_of bound) leaf root → (near : Near) → HasNodeAt pages leaf (ShowsAbove bound near) → IsNearAbove m bound near
+  near-above comes (Pair pair) (n, there, (well, least)) = first-here pages root m tree bound leaf comes n there well pair least
+  near-above comes (Further end) (n, there, (none, is, some)) = λ answer next.
+      first-further pages root m tree bound leaf comes n there none (λ e. some (sym is ∙ e)) answer (subst (λ (key : Bytes). IsNextAbove m (Included key) answer) (sym is) next)
+  near-above comes Nothing (n, there, (none, is)) = none-at-end pages root m tree bound leaf comes n there none is
+
+  pub near-below : IsBefore bound [] → ComesBefore pages root bound leaf → (near : Near) → HasNodeAt pages leaf (ShowsBelow bound near) → IsNearBelow m bound near
+  near-below first (turns, goes, (n, there, is)) near (k, at, shows) = by near (subst (λ (w : WholeNode). ShowsBelow bound near w) (one_node pages leaf n k there at) shows)
+    where
+      by : (near : Near) → ShowsBelow bound near n → IsNearBelow m bound near
+      by (Pair pair) (well, greatest) = last-here pages root m tree bound first turns leaf goes n there is.0 is.1 well pair greatest
+      by (Further start) (none, same) = λ answer next.
+          last-further pages root m tree bound first turns leaf goes n there is.0 is.1 none answer (subst (λ (key : Bytes). IsNextBelow m (Excluded key) answer) (sym same) next)
+      by Nothing shows = absurd shows
+
+-- a bound before which no key may be
+pub none-below : (m : Map) (bound : Bound Bytes) → (IsBefore bound [] → ⊥) → IsNextBelow m bound None
+none-below m bound never key value is before = never (before-down bound key [] before (never-below key))
+
+-- where to look further, and what is there
+above-further : (m : Map) (bound : Bound Bytes) (end : Bytes) → IsNearAbove m bound (Further end) → (near : Near) → IsNearAbove m (Included end) near → IsNearAbove m bound near
+above-further m bound end further (Pair pair) next = further (Some pair) next
+above-further m bound end further (Further other) next = λ answer h. further answer (next answer h)
+above-further m bound end further Nothing next = further None next
+
+pub above-on : (root : ℕ) (bound : Bound Bytes) (seen near : Near) (end : Bytes) → seen ≡ Further end → (pages : List Content) → SeesAbove root bound pages seen
+    → SeesAbove root (Included end) pages near → SeesAbove root bound pages near
+above-on root bound seen near end is pages so_far next = λ m tree. above-further m bound end (subst (λ (n : Near). IsNearAbove m bound n) is (so_far m tree)) near (next m tree)
+
+below-further : (m : Map) (bound : Bound Bytes) (start : Bytes) → IsNearBelow m bound (Further start) → (near : Near) → IsNearBelow m (Excluded start) near → IsNearBelow m bound near
+below-further m bound start further (Pair pair) next = further (Some pair) next
+below-further m bound start further (Further other) next = λ answer h. further answer (next answer h)
+below-further m bound start further Nothing next = further None next
+
+pub below-on : (root : ℕ) (bound : Bound Bytes) (seen near : Near) (start : Bytes) → seen ≡ Further start → (pages : List Content) → SeesBelow root bound pages seen
+    → SeesBelow root (Excluded start) pages near → SeesBelow root bound pages near
+below-on root bound seen near start is pages so_far next = λ m tree. below-further m bound start (subst (λ (n : Near). IsNearBelow m bound n) is (so_far m tree)) near (next m tree)
+
+-- ---- the pairs within two bounds
+
+module _ (pages : List Content) (root : ℕ) (m : Map) (tree : IsTreeOf pages root m) (key : Bytes) (leaf : ℕ) (comes : ComesToLeafOf pages key key leaf root) (n : WholeNode) (there : slice_get pages leaf ≡ Some (Node n)) (well : IsWellFormed n) where
+  at-leaf : IsLeafOf key n
+  at-leaf = let (i, x) = comes in leaf-there pages key leaf n there i root x
+
+  own-pairs : n.pairs ≡ as_items (within (Included n.lo) (end_of n.hi) m)
+  own-pairs = leaf-pairs n m tree.ascending well (λ other range. leaf-has pages root m tree key leaf n there comes other range)
+
+module _ (pages : List Content) (root : ℕ) (m : Map) (tree : IsTreeOf pages root m) (leaf : ℕ) where
+  pub piece-is : (from to : Bound Bytes) → ComesToLeafOf pages (start_of from) (start_of from) leaf root → (piece : Piece) → HasNodeAt pages leaf (ShowsPiece from to piece) → IsPieceOf from to m piece
+  piece-is from to comes piece (n, there, is) = record {
+    ends = λ none. piece-ends m tree.ascending n.lo n.hi from to range.0 (is.end ∙ none) ∙ sym pairs;
+    goes_on = λ some.
+        let some' : n.hi ≢ [] = λ e. some (sym is.end ∙ e) in
+        subst (λ (end : Bytes). within from to m ≡ piece.pairs.items ++ within (Included end) to m) is.end
+        (piece-goes-on m tree.ascending n.lo n.hi from to range.0 some' (range.1 some') ∙ ap (λ (ps : Map). ps ++ within (Included n.hi) to m) (sym pairs));
+  }
+    where
+      range : IsInRange n (start_of from)
+      range = (at-leaf pages root m tree (start_of from) leaf comes n there is.well_formed).1
+
+      pairs : piece.pairs.items ≡ within from to (within (Included n.lo) (end_of n.hi) m)
+      pairs = same-items piece.pairs.items (within from to (within (Included n.lo) (end_of n.hi) m))
+          (is.pairs ∙ ap (λ (ps : List (Bytes × Item)). within from to ps) (own-pairs pages root m tree (start_of from) leaf comes n there is.well_formed) ∙ within-items from to (within (Included n.lo) (end_of n.hi) m))
+
+-- the pairs of a piece, if there are any, or it is the last
+module _ (from to : Bound Bytes) (m : Map) (piece : Piece) (is : IsPieceOf from to m piece) where
+  begins-ends : piece.end ≡ [] → BeginsWith (within from to m) piece.pairs.items
+  begins-ends none = record { rest = []; is = is.ends none ∙ sym (append-nil piece.pairs.items); some = λ e. is.ends none ∙ e }
+
+  pub begins-some : piece.pairs.items ≢ [] → BeginsWith (within from to m) piece.pairs.items
+  begins-some some = by (empty-or-not piece.end)
+    where
+      by : (piece.end ≡ []) ⊎ (piece.end ≢ []) → BeginsWith (within from to m) piece.pairs.items
+      by (inl none) = begins-ends none
+      by (inr more) = record { rest = within (Included piece.end) to m; is = is.goes_on more; some = λ e. absurd (some e) }
+
+  pub begins-past : (piece.end ≡ []) ⊎ (is_before to piece.end ≡ false) → BeginsWith (within from to m) piece.pairs.items
+  begins-past (inl none) = begins-ends none
+  begins-past (inr past) = by (empty-or-not piece.end)
+    where
+      by : (piece.end ≡ []) ⊎ (piece.end ≢ []) → BeginsWith (within from to m) piece.pairs.items
+      by (inl none) = begins-ends none
+      by (inr more) =
+          let all : within from to m ≡ piece.pairs.items = is.goes_on more ∙ ap (λ (ps : Map). piece.pairs.items ++ ps) (none-past piece.end to m past) ∙ append-nil piece.pairs.items in
+          record { rest = []; is = all ∙ sym (append-nil piece.pairs.items); some = λ e. all ∙ e }
+
+  -- where it has none, those of the next piece
+  pub piece-further : piece.pairs.items ≡ [] → piece.end ≢ [] → (next : Piece) → IsPieceOf (Included piece.end) to m next → IsPieceOf from to m next
+  piece-further none more next then = record { ends = λ e. same ∙ then.ends e; goes_on = λ e. same ∙ then.goes_on e }
+    where
+      same : within from to m ≡ within (Included piece.end) to m
+      same = is.goes_on more ∙ ap (λ (ps : Map). ps ++ within (Included piece.end) to m) none

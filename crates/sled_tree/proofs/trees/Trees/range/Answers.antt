@@ -1,0 +1,23 @@
+use Rattle.std.proofs.Common.{Ok, subst}
+use Rattle.sled_pagecache.specs.Cache.{Cache}
+use Rattle.sled_search.specs.Map.{Map}
+use Rattle.sled_search.specs.Search.{IsTreeOf}
+use Rattle.sled_tree.specs.Changed.{Reads}
+use Rattle.sled_tree.specs.Maps.{root_of}
+use Rattle.sled_tree.specs.Ordered.{within, BeginsWith}
+use Rattle.sled_tree.specs.Performs.{Performs}
+use Rattle.sled_tree.specs.declared.error.TreeError.{TreeError}
+use Rattle.sled_tree.proofs.Performing.{reads-ok, reads-so}
+use Rattle.sled_tree.proofs.trees.Trees.range.Goals as goal
+
+pub returns-clause-pairs : goal.returns-clause-pairs
+returns-clause-pairs g c =
+    let from = c.args.from.now in
+    let to = c.args.to.now in
+    let root = root_of c.args.tree in
+    let pairs = c.in_ok-pairs_within.field-0 in
+    let old = c.self.inside.cache in
+    let new = c.pairs_within.new.cache in
+    subst (λ (cache : Cache g.row.L.Denot). Performs g.L.Log (Reads {E = TreeError} (Ok pairs) (λ pages pairs. (m : Map) → IsTreeOf pages root m → BeginsWith (within from to m) pairs.items)) cache new) c.self.view_is
+    (reads-ok g.L.Log (λ pages pairs. (m : Map) → IsTreeOf pages root m → BeginsWith (within from to m) pairs.items) old new pairs
+    (reads-so g.L.Log (λ pages pairs. (m : Map) → IsTreeOf pages root m → BeginsWith (within from to m) pairs.items) old new pairs c.in_ok-pairs_within.ensures))

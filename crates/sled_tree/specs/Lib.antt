@@ -1,0 +1,13 @@
+pub mod Changed
+pub mod Errors
+pub mod Limits
+pub mod Maps
+pub mod Named
+pub mod Names
+pub mod Openings
+pub mod Ordered
+pub mod OrderedLeaves
+pub mod Performs
+pub mod Prefixes
+pub mod Splits
+pub mod Walks

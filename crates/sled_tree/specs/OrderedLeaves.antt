@@ -1,0 +1,101 @@
+-- What a leaf tells of the pairs next to a bound, of those within two, and of how many there are.
+use Rattle.std.specs.Prelude.{◌≡◌, ◌≢◌, ◌⊎◌, ℕ, ◌+◌, List, [], ◌∷◌, ◌++◌, length, Option, Some, None}
+use Rattle.std.specs.declared.ops.Bound.{Bound}
+use Rattle.std.specs.declared.ops.Bound.TheVariants.{Included, Excluded}
+use Rattle.sled_base.specs.Order.{Bytes}
+use Rattle.sled_log.specs.Contents.{Content}
+use Rattle.sled_node.specs.Neighbours.{IsBehind, IsBefore, IsLeast, IsGreatest, HasNone}
+use Rattle.sled_node.specs.Node.{WholeNode, Item, Value, IsWellFormed}
+use Rattle.sled_search.specs.Map.{Map}
+use Rattle.sled_search.specs.Ordered.{IsNextAbove, IsNextBelow, IsLeafBefore, GoesBefore}
+use Rattle.sled_search.specs.Search.{HasNodeAt, ComesToLeafOf, IsTreeOf}
+use Rattle.sled_tree.specs.Ordered.{behind, within}
+use Rattle.sled_tree.specs.declared.neighbours.Near.{Near}
+use Rattle.sled_tree.specs.declared.neighbours.Near.TheVariants.{Pair, Further, Nothing}
+use Rattle.sled_tree.specs.declared.neighbours.count.Part.{Part}
+use Rattle.sled_tree.specs.declared.neighbours.pieces.Piece.{Piece}
+
+-- the search for the keys right before a bound comes to that leaf
+abbrev pub ComesBefore : List Content → ℕ → Bound Bytes → ℕ → Type 0
+ComesBefore pages root bound leaf = (turns : ℕ) × GoesBefore pages bound turns root leaf × HasNodeAt pages leaf (IsLeafBefore bound)
+
+-- ---- the pair next to a bound
+
+-- what a leaf has next behind a bound, or that it has none, and where it ends
+abbrev pub ShowsAbove : Bound Bytes → Near → WholeNode → Type 0
+ShowsAbove bound (Pair pair) n = IsWellFormed n × IsLeast (IsBehind bound) n pair
+ShowsAbove bound (Further end) n = HasNone (IsBehind bound) n × (n.hi ≡ end) × (end ≢ [])
+ShowsAbove bound Nothing n = HasNone (IsBehind bound) n × (n.hi ≡ [])
+
+-- what a leaf has right before a bound, or that it has none, and where it begins
+abbrev pub ShowsBelow : Bound Bytes → Near → WholeNode → Type 0
+ShowsBelow bound (Pair pair) n = IsWellFormed n × IsGreatest (IsBefore bound) n pair
+ShowsBelow bound (Further start) n = HasNone (IsBefore bound) n × (n.lo ≡ start)
+ShowsBelow bound Nothing n = ⊥
+
+-- the same of the map: the pair, or behind which other bound it is to be found
+abbrev pub IsNearAbove : Map → Bound Bytes → Near → Type 0
+IsNearAbove m bound (Pair pair) = IsNextAbove m bound (Some pair)
+IsNearAbove m bound (Further end) = (answer : Option (Bytes × Bytes)) → IsNextAbove m (Included end) answer → IsNextAbove m bound answer
+IsNearAbove m bound Nothing = IsNextAbove m bound None
+
+abbrev pub IsNearBelow : Map → Bound Bytes → Near → Type 0
+IsNearBelow m bound (Pair pair) = IsNextBelow m bound (Some pair)
+IsNearBelow m bound (Further start) = (answer : Option (Bytes × Bytes)) → IsNextBelow m (Excluded start) answer → IsNextBelow m bound answer
+IsNearBelow m bound Nothing = IsNextBelow m bound None
+
+-- the same of whichever map the tree is
+abbrev pub SeesAbove : ℕ → Bound Bytes → List Content → Near → Type 0
+SeesAbove root bound pages near = (m : Map) → IsTreeOf pages root m → IsNearAbove m bound near
+
+abbrev pub SeesBelow : ℕ → Bound Bytes → List Content → Near → Type 0
+SeesBelow root bound pages near = (m : Map) → IsTreeOf pages root m → IsNearBelow m bound near
+
+-- ---- the pairs within two bounds
+
+-- pairs as a leaf has them
+abbrev pub as_items : Map → List (Bytes × Item)
+as_items [] = []
+as_items (pair ∷ m) = (pair.0, Value pair.1) ∷ as_items m
+
+-- the one item, if there is one
+abbrev pub one_of : {X : Type 0} → Option X → List X
+one_of (Some x) = x ∷ []
+one_of None = []
+
+-- what a leaf has within the bounds, and where it ends
+pub record ShowsPiece (from to : Bound Bytes) (piece : Piece) (n : WholeNode) : Type 0 where
+  pub well_formed : IsWellFormed n
+  pub pairs : as_items piece.pairs.items ≡ within from to n.pairs
+  pub end : n.hi ≡ piece.end
+
+-- the same of the map: those pairs come first within the bounds, and the others are from the end on
+pub record IsPieceOf (from to : Bound Bytes) (m : Map) (piece : Piece) : Type 0 where
+  pub ends : piece.end ≡ [] → within from to m ≡ piece.pairs.items
+  pub goes_on : piece.end ≢ [] → within from to m ≡ piece.pairs.items ++ within (Included piece.end) to m
+
+abbrev pub SeesPiece : ℕ → Bound Bytes → Bound Bytes → List Content → Piece → Type 0
+SeesPiece root from to pages piece = (m : Map) → IsTreeOf pages root m → IsPieceOf from to m piece
+
+-- ---- how many there are
+
+-- a leaf has so many pairs, and ends there
+pub record ShowsPart (part : Part) (n : WholeNode) : Type 0 where
+  pub well_formed : IsWellFormed n
+  pub pairs : length n.pairs ≡ part.pairs
+  pub end : n.hi ≡ part.end
+
+-- that is what the leaf of the key has
+abbrev pub HasPart : List Content → ℕ → Bytes → Part → Type 0
+HasPart pages root key part = (leaf : ℕ) × ComesToLeafOf pages key key leaf root × HasNodeAt pages leaf (ShowsPart part)
+
+-- the first of all keys, or one at which a leaf ends
+abbrev pub IsStart : List Content → ℕ → Bytes → Type 0
+IsStart pages root key = (key ≡ []) ⊎ ((other : Bytes) × (leaf : ℕ) × ComesToLeafOf pages other other leaf root × HasNodeAt pages leaf (λ n. n.hi ≡ key))
+
+-- So many pairs of the map are below the key. The part is that of the leaf which begins there.
+pub record IsCounted (pages : List Content) (root count : ℕ) (part : Part) : Type 0 where
+  pub key : Bytes
+  pub start : IsStart pages root key
+  pub has : HasPart pages root key part
+  pub counted : (m : Map) → IsTreeOf pages root m → length m ≡ count + length (behind (Included key) m)

@@ -1,0 +1,33 @@
+//! Ordered maps, by names, over the pages of a cache.
+//!
+//! In reading order:
+//!
+//! - `trees`: the maps, and their calls
+//! - `error`: why a call is refused
+//! - `walk`: from a tree's root to the leaf of a key
+//! - `place`: where a key stands, or would, in its leaf
+//! - `room`: the leaf of a key, which has room for a pair
+//! - `splits`: the steps in which room is made
+//! - `swap`: setting a value, or taking one out, where another one stands
+//! - `neighbours`: the nearest pairs on either side of a bound, those between two, and how many there are
+//! - `examples`: what the definitions of these are, worked out
+//! - `openings`: what holds of the maps of caches that are opened over one log, one after another
+#![tactic(auto)]
+
+pub mod error;
+pub mod examples;
+mod neighbours;
+pub mod openings;
+mod place;
+mod room;
+mod splits;
+mod swap;
+pub mod trees;
+mod walk;
+
+pub use error::TreeError;
+pub use sled_pagecache::{
+    self, Config, Device, Disk, DiskLog, Error, FileDisk, IVec, Log, MemDisk, MemLog, PageCache,
+    PageId, Why,
+};
+pub use trees::{Limits, Tree, Trees};

@@ -1,0 +1,92 @@
+//! From a tree's root to the leaf of a key, or of the keys right before a bound.
+
+ghost use Rattle.sled_search.specs.Ordered.{start_of};
+ghost use Rattle.sled_search.specs.Routes.{Routes, RoutesBefore};
+ghost use Rattle.sled_search.specs.Search.{HasNodeAt, ComesToLeafOf};
+ghost use Rattle.sled_tree.specs.Changed.{Reads};
+ghost use Rattle.sled_tree.specs.OrderedLeaves.{ComesBefore};
+ghost use Rattle.sled_tree.specs.Performs.{Performs};
+
+use sled_pagecache::{Error, IVec, Log, PageCache, PageId};
+use sled_search::{Turn, route, route_before};
+use std::ops::Bound;
+
+/// The leaf in which the first key behind the bound is, or would be.
+pub fn leaf_above<L: Log>(
+    cache: &mut PageCache<L>,
+    root: PageId,
+    bound: &Bound<IVec>,
+) -> Result<PageId, Error>
+    ensures { Performs L.Log (Reads result (λ pages leaf.
+        ComesToLeafOf pages (start_of bound.now) (start_of bound.now) leaf root))
+        cache.old cache.new }
+{
+    match bound {
+        Bound::Included(key) | Bound::Excluded(key) => leaf_of(cache, root, key.as_slice()),
+        Bound::Unbounded => leaf_of(cache, root, &[]),
+    }
+}
+
+/// The leaf of a key.
+pub fn leaf_of<L: Log>(cache: &mut PageCache<L>, root: PageId, key: &[u8]) -> Result<PageId, Error>
+    ensures { Performs L.Log (Reads result (λ pages leaf.
+        ComesToLeafOf pages key.now key.now leaf root)) cache.old cache.new }
+{
+    let mut at = root;
+    'turns: for _ in 0..u64::MAX {
+        match turn_at(cache, at, key)? {
+            Turn::Here => return Ok(at),
+            Turn::Down(page) | Turn::Right(page) => at = page,
+            Turn::Astray => return Err(Error::Corruption(None)),
+        }
+    }
+    Err(Error::Corruption(None))
+}
+
+// Where the page leads the key.
+fn turn_at<L: Log>(cache: &mut PageCache<L>, pid: PageId, key: &[u8]) -> Result<Turn, Error>
+    ensures { Performs L.Log (Reads result (λ pages turn. HasNodeAt pages pid (Routes key.now turn)))
+        cache.old cache.new }
+{
+    match cache.get(pid) {
+        Ok(Some(view)) => Ok(route(view.node(), key)),
+        Ok(None) => Err(Error::Corruption(None)),
+        Err(refusal) => Err(Error::from(refusal)),
+    }
+}
+
+/// The leaf of the keys right before the bound.
+pub fn leaf_before<L: Log>(
+    cache: &mut PageCache<L>,
+    root: PageId,
+    bound: &Bound<IVec>,
+) -> Result<PageId, Error>
+    ensures { Performs L.Log (Reads result (λ pages leaf. ComesBefore pages root bound.now leaf))
+        cache.old cache.new }
+{
+    let mut at = root;
+    'turns: for _ in 0..u64::MAX {
+        match turn_before_at(cache, at, bound)? {
+            Turn::Here => return Ok(at),
+            Turn::Down(page) | Turn::Right(page) => at = page,
+            Turn::Astray => return Err(Error::Corruption(None)),
+        }
+    }
+    Err(Error::Corruption(None))
+}
+
+// Where the page leads the keys right before the bound.
+fn turn_before_at<L: Log>(
+    cache: &mut PageCache<L>,
+    pid: PageId,
+    bound: &Bound<IVec>,
+) -> Result<Turn, Error>
+    ensures { Performs L.Log (Reads result (λ pages turn.
+        HasNodeAt pages pid (RoutesBefore bound.now turn))) cache.old cache.new }
+{
+    match cache.get(pid) {
+        Ok(Some(view)) => Ok(route_before(view.node(), bound)),
+        Ok(None) => Err(Error::Corruption(None)),
+        Err(refusal) => Err(Error::from(refusal)),
+    }
+}

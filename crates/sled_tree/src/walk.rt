@@ -1,0 +1,80 @@
+//! From a tree's root to the leaf of a key, and what that has there.
+
+ghost use Rattle.std.specs.Prelude.{◌≡◌, false, IfOk};
+ghost use Rattle.sled_search.specs.Search.{ComesToValue, HasNodeAt, HasAt};
+ghost use Rattle.sled_tree.specs.Changed.{Reads};
+ghost use Rattle.sled_tree.specs.Performs.{Performs};
+ghost use Rattle.sled_tree.specs.Walks.{Shows};
+
+use sled_node::Node;
+use sled_pagecache::{Error, IVec, Log, PageCache, PageId, sled_node};
+use sled_search::{Turn, route};
+use std::alloc::Global;
+
+// What a page says of a key.
+#[derive(Drop)]
+enum Sight {
+    // The leaf of the key: the value there, or that it has none.
+    Value(Option<IVec>),
+    // The page to look at next.
+    On(PageId),
+}
+
+/// The value that a key has in the tree with this root.
+pub fn value_for<L: Log>(
+    alloc: Global,
+    cache: &mut PageCache<L>,
+    root: PageId,
+    key: &[u8],
+) -> Result<Option<IVec>, Error>
+    ensures { Performs L.Log (Reads result (λ pages value. ComesToValue pages key.now value root))
+        cache.old cache.new }
+{
+    let mut at = root;
+    'turns: for _ in 0..u64::MAX {
+        match sight_at(alloc, cache, at, key)? {
+            Sight::Value(value) => return Ok(value),
+            Sight::On(page) => at = page,
+        }
+    }
+    Err(Error::Corruption(None))
+}
+
+// What the page says of the key.
+fn sight_at<L: Log>(
+    alloc: Global,
+    cache: &mut PageCache<L>,
+    pid: PageId,
+    key: &[u8],
+) -> Result<Sight, Error>
+    ensures { Performs L.Log (Reads result (λ pages sight. HasNodeAt pages pid (Shows key.now sight)))
+        cache.old cache.new }
+{
+    match cache.get(pid) {
+        Ok(Some(view)) => seen(alloc, view.node(), key),
+        Ok(None) => Err(Error::Corruption(None)),
+        Err(refusal) => Err(Error::from(refusal)),
+    }
+}
+
+fn seen(alloc: Global, node: &Node, key: &[u8]) -> Result<Sight, Error>
+    ensures { IfOk result (λ sight. Shows key.now sight node.now) }
+{
+    match route(node, key) {
+        Turn::Here => Ok(Sight::Value(value_here(alloc, node, key)?)),
+        Turn::Down(page) | Turn::Right(page) => Ok(Sight::On(page)),
+        Turn::Astray => Err(Error::Corruption(None)),
+    }
+}
+
+// The value of a key in its leaf.
+fn value_here(alloc: Global, node: &Node, key: &[u8]) -> Result<Option<IVec>, Error>
+    requires leaf { node.now.is_index ≡ false }
+    ensures { IfOk result (λ value. HasAt key.now value node.now) }
+{
+    let _ = node.data(); // which says that the keys rise
+    match node.leaf_pair_for_key(key) {
+        Some((_, value)) => Ok(Some(IVec::from_slice(alloc, value)?)),
+        None => Ok(None),
+    }
+}
