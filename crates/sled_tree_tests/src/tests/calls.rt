@@ -1,0 +1,211 @@
+// The calls of the list on maps over any log, and what the maps show.
+
+use super::listed::{Call, KEYS, Outcome, Plain};
+use super::*;
+
+// A name, a key or a value of more than 22 bytes takes memory.
+const NAMES: [&[u8]; 2] = [b"m", b"a map whose name takes memory"];
+
+const KEY_BYTES: [&[u8]; KEYS] = [
+    b"",
+    b"a",
+    b"a key that takes memory, as b does not",
+    b"b",
+    b"c, which takes memory as well",
+    b"d",
+    b"e, which takes memory as well",
+    b"e, which takes memory as well, and begins as the one before",
+    b"f",
+    b"g",
+    b"h, which takes memory as well",
+    b"i",
+    b"j",
+    b"k, which takes memory as well",
+    b"l",
+    b"m",
+];
+
+const NONE: &[u8] = b"";
+
+fn name_of(map: usize) -> &'static [u8] {
+    NAMES.get(map).copied().unwrap_or(NONE)
+}
+
+fn key_of(key: usize) -> &'static [u8] {
+    KEY_BYTES.get(key).copied().unwrap_or(NONE)
+}
+
+// The bytes of a value that takes memory, if its number is even, and of another one.
+fn bytes_of(value: u8) -> ([u8; 30], usize) {
+    ([value; 30], if value % 2 == 0 { 30 } else { 3 })
+}
+
+// ---- what is answered
+
+pub(super) fn outcome_of(error: &Error) -> Outcome {
+    match error {
+        Error::OutOfMemory => Outcome::Unmade,
+        Error::Io(Device::Read) => Outcome::Unread,
+        Error::Io(Device::Write) => Outcome::Faulty,
+        _ => Outcome::Other,
+    }
+}
+
+fn refused(error: &TreeError) -> Outcome {
+    match error {
+        TreeError::Cache(error) => outcome_of(error),
+        _ => Outcome::Other,
+    }
+}
+
+fn value_of(found: &[u8]) -> Outcome {
+    let Some(value) = found.first() else {
+        return Outcome::Other;
+    };
+    let (bytes, length) = bytes_of(*value);
+    if bytes.get(..length) == Some(found) {
+        Outcome::Was(*value)
+    } else {
+        Outcome::Other
+    }
+}
+
+fn answered(answer: &Result<Option<IVec>, TreeError>) -> Outcome {
+    match answer {
+        Ok(Some(found)) => value_of(found.as_slice()),
+        Ok(None) => Outcome::Was(0),
+        Err(error) => refused(error),
+    }
+}
+
+// ---- the calls
+
+fn tree_of<L: Log>(trees: &mut Trees<L>, map: usize) -> Result<Tree, Outcome> {
+    match trees.open(name_of(map)) {
+        Ok(tree) => Ok(tree),
+        Err(error) => Err(refused(&error)),
+    }
+}
+
+fn gets<L: Log>(trees: &mut Trees<L>, tree: Tree, key: usize) -> Outcome {
+    answered(&trees.get(tree, key_of(key)))
+}
+
+fn removes<L: Log>(trees: &mut Trees<L>, tree: Tree, key: usize) -> Outcome {
+    answered(&trees.remove(tree, key_of(key)))
+}
+
+fn inserts<L: Log>(
+    alloc: Global,
+    trees: &mut Trees<L>,
+    tree: Tree,
+    key: usize,
+    value: u8,
+) -> Outcome {
+    let (bytes, length) = bytes_of(value);
+    match IVec::from_slice(alloc, bytes.get(..length).unwrap_or(NONE)) {
+        Ok(value) => answered(&trees.insert(tree, key_of(key), value)),
+        Err(_) => Outcome::Unmade,
+    }
+}
+
+fn asks<L: Log>(alloc: Global, trees: &mut Trees<L>, tree: Tree, call: &Call) -> Outcome {
+    match *call {
+        Call::Opens(_) => Outcome::Done,
+        Call::Inserts(_, key, value) => inserts(alloc, trees, tree, key, value),
+        Call::Removes(_, key) => removes(trees, tree, key),
+        Call::Gets(_, key) => gets(trees, tree, key),
+    }
+}
+
+/// What a call answers. It opens its map first.
+pub(super) fn answer<L: Log>(alloc: Global, trees: &mut Trees<L>, call: &Call) -> Outcome {
+    let (Call::Opens(map) | Call::Inserts(map, _, _) | Call::Removes(map, _) | Call::Gets(map, _)) =
+        *call;
+    match tree_of(trees, map) {
+        Ok(tree) => asks(alloc, trees, tree, call),
+        Err(outcome) => outcome,
+    }
+}
+
+// ---- what maps show
+
+fn is_unnamed<L: Log>(cache: &PageCache<L>, name: &[u8]) -> bool {
+    match cache.meta_pid_for_name(name) {
+        Err(Error::CollectionNotFound(missing)) => missing.as_slice() == name,
+        _ => false,
+    }
+}
+
+fn has_values<L: Log>(trees: &mut Trees<L>, tree: Tree, values: &[u8; KEYS]) -> bool {
+    for (key, value) in values.iter().enumerate() {
+        if gets(trees, tree, key) != Outcome::Was(*value) {
+            return false;
+        }
+    }
+    true
+}
+
+/// Whether all maps are there that should be, with the values that they should have.
+pub(super) fn is_plain<L: Log>(trees: &mut Trees<L>, plain: &Plain) -> bool {
+    for (map, values) in plain.iter().enumerate() {
+        let is_so = match (values, tree_if(trees, map, values.is_some())) {
+            (Some(values), Some(tree)) => has_values(trees, tree, values),
+            (None, None) => is_unnamed(trees.cache(), name_of(map)),
+            _ => false,
+        };
+        if !is_so {
+            return false;
+        }
+    }
+    true
+}
+
+fn tree_if<L: Log>(trees: &mut Trees<L>, map: usize, is_there: bool) -> Option<Tree> {
+    if is_there {
+        tree_of(trees, map).ok()
+    } else {
+        None
+    }
+}
+
+// A value that the list has nowhere.
+const SPARE: u8 = 99;
+
+// Whether a call answers this. It is made again where an allocation or a read failed.
+fn answers<L: Log>(alloc: Global, trees: &mut Trees<L>, call: &Call, wanted: Outcome) -> bool {
+    let outcome = answer(alloc, trees, call);
+    if matches!(outcome, Outcome::Unmade | Outcome::Unread) {
+        return answer(alloc, trees, call) == wanted;
+    }
+    outcome == wanted
+}
+
+/// Whether the maps can be gone on with: each key is set once more, and taken out.
+pub(super) fn goes_on<L: Log>(alloc: Global, trees: &mut Trees<L>, plain: &Plain) -> bool {
+    for (map, values) in plain.iter().enumerate() {
+        if let Some(values) = values {
+            for (key, value) in values.iter().enumerate() {
+                let sets = Call::Inserts(map, key, SPARE);
+                if !answers(alloc, trees, &sets, Outcome::Was(*value)) {
+                    return false;
+                }
+            }
+            if !empties(alloc, trees, map) {
+                return false;
+            }
+        }
+    }
+    true
+}
+
+fn empties<L: Log>(alloc: Global, trees: &mut Trees<L>, map: usize) -> bool {
+    for key in 0..KEYS {
+        if !answers(alloc, trees, &Call::Removes(map, key), Outcome::Was(SPARE))
+            || !answers(alloc, trees, &Call::Gets(map, key), Outcome::Was(0))
+        {
+            return false;
+        }
+    }
+    true
+}

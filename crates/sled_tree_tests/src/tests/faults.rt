@@ -1,0 +1,350 @@
+// Every fault, one at a time, over a list of calls on maps on a disk: each read, each write and sync, and a crash before each of these.
+
+use super::calls::{answer, goes_on, is_plain, outcome_of};
+use super::listed::{Call, LIST, NEW, Opening, Outcome, Plain, behind, make, wanted};
+use super::*;
+use sled_pagecache::crashes::writes_and_syncs;
+
+type Disked = Trees<DiskLog<MemDisk>>;
+
+/// How the list is made over a disk.
+#[derive(Clone, Copy)]
+struct Way {
+    segment_size: u64,
+    // for how many messages one is due to be moved, or 0
+    clean_every: u64,
+    // the read that fails, and the write or sync, each counted from the first opening on; or 0
+    unread: u64,
+    unwritten: u64,
+    // whether an allocation may be refused
+    is_refused: bool,
+    // it ends behind the call in which the disk has made so many writes and syncs
+    calls: usize,
+}
+
+// The size of a segment, and for how many messages one is due.
+const KINDS: &[(u64, u64)] = &[(0, 0), (64, 2), (4096, 0)];
+
+// What the n-th crash leaves in each byte that isn't synced, or that such bytes are as they were written.
+fn fill_of(n: usize) -> Option<u8> {
+    match n % 3 {
+        0 => None,
+        1 => Some(0),
+        _ => Some(255),
+    }
+}
+
+fn over(kind: &(u64, u64)) -> Way {
+    let (segment_size, clean_every) = *kind;
+    Way {
+        segment_size,
+        clean_every,
+        unread: 0,
+        unwritten: 0,
+        is_refused: false,
+        calls: usize::MAX,
+    }
+}
+
+/// How far the list came.
+#[derive(Clone, Copy)]
+struct Reach {
+    // what is there
+    plain: Plain,
+    // how many calls were made, and how many of them a crash has to leave
+    made: usize,
+    durable: usize,
+}
+
+const START: Reach = Reach {
+    plain: NEW,
+    made: 0,
+    durable: 0,
+};
+
+// ---- one call
+
+// Whether a fault may be answered, behind which a call is made again.
+fn may_pass(outcome: Outcome, way: &Way) -> bool {
+    outcome == Outcome::Unread && way.unread > 0 || outcome == Outcome::Unmade && way.is_refused
+}
+
+// Whether the maps are those. A read that fails, or a refused allocation, may fall in the first try.
+fn is_still(trees: &mut Disked, plain: &Plain) -> bool {
+    is_plain(trees, plain) || is_plain(trees, plain)
+}
+
+fn is_unwritten(trees: &Disked) -> bool {
+    trees.cache().log().disk().write_faults() > 0
+}
+
+// What a call answers. Where that is such a fault, the maps are as they were, and what it answers next counts.
+fn asks(alloc: Global, trees: &mut Disked, call: &Call, plain: &Plain, way: &Way) -> Outcome {
+    let outcome = answer(alloc, trees, call);
+    if may_pass(outcome, way) && is_still(trees, plain) {
+        return answer(alloc, trees, call);
+    }
+    outcome
+}
+
+// Whether a call answers as it should. The write fault of a move that it added may be passed over.
+fn makes(alloc: Global, trees: &mut Disked, call: &Call, reach: &mut Reach, way: &Way) -> bool {
+    if is_unwritten(trees) {
+        return answer(alloc, trees, call) == Outcome::Faulty;
+    }
+    let outcome = asks(alloc, trees, call, &reach.plain, way);
+    let is_wanted = outcome == wanted(&reach.plain, call);
+    make(&mut reach.plain, call);
+    reach.made = reach.made.saturating_add(1);
+    if is_unwritten(trees) && !(is_wanted && way.clean_every > 0) {
+        return outcome == Outcome::Faulty;
+    }
+    is_wanted
+}
+
+// ---- the list
+
+fn is_ended(trees: &Disked, way: &Way) -> bool {
+    writes_and_syncs(trees.cache()) >= way.calls
+}
+
+// Whether the calls of a part answer as they should, up to its end or that of the list.
+fn all_made(
+    alloc: Global,
+    trees: &mut Disked,
+    part: &[Call],
+    reach: &mut Reach,
+    way: &Way,
+) -> bool {
+    for call in part {
+        if is_ended(trees, way) {
+            return true;
+        }
+        if !makes(alloc, trees, call, reach, way) {
+            return false;
+        }
+    }
+    true
+}
+
+// Leaves and indices of three.
+fn maps_of(alloc: Global, cache: PageCache<DiskLog<MemDisk>>) -> Disked {
+    Trees::with_limits(alloc, cache, Limits::new(3, 3))
+}
+
+fn flushes(cache: &mut PageCache<DiskLog<MemDisk>>) -> Outcome {
+    match cache.flush() {
+        Ok(_) => Outcome::Done,
+        Err(error) => outcome_of(&error),
+    }
+}
+
+// The maps behind a flush, if that answers as it should.
+fn flushed(alloc: Global, trees: Disked, reach: &mut Reach, way: &Way) -> Option<Disked> {
+    let mut cache = trees.into_cache();
+    let outcome = flushes(&mut cache);
+    let trees = maps_of(alloc, cache);
+    if is_unwritten(&trees) {
+        return (outcome == Outcome::Faulty).then_some(trees);
+    }
+    if !is_ended(&trees, way) {
+        reach.durable = reach.made;
+    }
+    (outcome == Outcome::Done).then_some(trees)
+}
+
+fn part_made(
+    alloc: Global,
+    mut trees: Disked,
+    part: &[Call],
+    reach: &mut Reach,
+    way: &Way,
+) -> Option<Disked> {
+    if !all_made(alloc, &mut trees, part, reach, way) {
+        return None;
+    }
+    if is_ended(&trees, way) {
+        return Some(trees);
+    }
+    flushed(alloc, trees, reach, way)
+}
+
+fn opened_once(alloc: Global, disk: MemDisk, way: &Way) -> Result<Disked, (Outcome, MemDisk)> {
+    match DiskLog::open(alloc, disk, way.segment_size, way.clean_every) {
+        Ok(log) => match PageCache::start(alloc, SMALL, log) {
+            Ok(cache) => Ok(maps_of(alloc, cache)),
+            Err((error, log)) => Err((outcome_of(&error), log.into_disk())),
+        },
+        Err((error, disk)) => Err((outcome_of(&Error::from(error)), disk)),
+    }
+}
+
+fn opened_on(alloc: Global, disk: MemDisk, way: &Way) -> Result<Disked, (Outcome, MemDisk)> {
+    match opened_once(alloc, disk, way) {
+        Err((outcome, disk)) if may_pass(outcome, way) => opened_once(alloc, disk, way),
+        opened => opened,
+    }
+}
+
+// The disk behind the parts of one opening, if all is as it should be.
+fn opening_made(
+    alloc: Global,
+    disk: MemDisk,
+    opening: Opening,
+    reach: &mut Reach,
+    way: &Way,
+) -> Option<MemDisk> {
+    let mut trees = match opened_on(alloc, disk, way) {
+        Ok(trees) => trees,
+        Err((outcome, disk)) => {
+            let is_so = outcome == Outcome::Faulty && disk.write_faults() > 0;
+            return is_so.then_some(disk);
+        }
+    };
+    for part in opening {
+        trees = part_made(alloc, trees, part, reach, way)?;
+    }
+    log_of(trees).map(DiskLog::into_disk)
+}
+
+fn new_disk(alloc: Global) -> Option<MemDisk> {
+    let mut disk = MemDisk::new(alloc, 1 << 16).ok()?;
+    DiskLog::create(&mut disk).ok()?;
+    Some(disk)
+}
+
+// The disk behind the list, and how far that came, if all is as it should be.
+fn made(alloc: Global, way: &Way) -> Option<(MemDisk, Reach)> {
+    let mut disk = match new_disk(alloc) {
+        Some(disk) => disk,
+        None => new_disk(alloc)?,
+    };
+    disk.fail_read(way.unread);
+    disk.fail_write(way.unwritten);
+    let mut reach = START;
+    for opening in LIST {
+        disk = opening_made(alloc, disk, opening, &mut reach, way)?;
+        if disk.calls() >= way.calls || disk.write_faults() > 0 {
+            return Some((disk, reach));
+        }
+    }
+    Some((disk, reach))
+}
+
+// How many writes and syncs the disk makes.
+fn calls_made(alloc: Global, way: &Way) -> usize {
+    match made(alloc, way) {
+        Some((disk, _)) => disk.calls(),
+        None => 0,
+    }
+}
+
+// ---- what is opened then
+
+// Whether the maps are those behind some of the calls, with all that a crash has to leave, and can be gone on with.
+fn shows_prefix(alloc: Global, trees: &mut Disked, reach: &Reach) -> bool {
+    for calls in reach.durable..reach.made.saturating_add(1) {
+        let plain = behind(calls);
+        if is_still(trees, &plain) {
+            return goes_on(alloc, trees, &plain);
+        }
+    }
+    false
+}
+
+fn opens_to_prefix(alloc: Global, disk: MemDisk, reach: &Reach, way: &Way) -> bool {
+    match opened_on(alloc, disk, way) {
+        Ok(mut trees) => shows_prefix(alloc, &mut trees, reach),
+        Err(_) => false,
+    }
+}
+
+// Whether all maps stand behind the list, and whether a read failed; or none where all isn't as it should be.
+fn stands(alloc: Global, way: &Way) -> Option<bool> {
+    let (disk, reach) = made(alloc, way)?;
+    let is_met = disk.failed_reads() > 0;
+    let is_all = reach.made == reach.durable;
+    (is_all && opens_to_prefix(alloc, disk, &reach, way)).then_some(is_met)
+}
+
+// Without a refused allocation this shows that every call succeeds.
+#[test]
+fn refuse_each_allocation(rt: HostRuntime) {
+    for kind in [(64, 0), (512, 3)] {
+        let way = Way {
+            is_refused: true,
+            ..over(&kind)
+        };
+        assert_eq!(rt; stands(rt.alloc(), &way), Some(false), "{kind:?}");
+    }
+}
+
+// Whether some read failed, and the list went on behind each that did; or the number of the read behind which it didn't.
+fn failed_reads(alloc: Global, kind: &(u64, u64)) -> Result<bool, u64> {
+    for unread in 1..2000 {
+        let way = Way {
+            unread,
+            ..over(kind)
+        };
+        match stands(alloc, &way) {
+            Some(true) => {}
+            Some(false) => return Ok(unread > 20),
+            None => return Err(unread),
+        }
+    }
+    Err(0)
+}
+
+#[test]
+fn fail_each_read(rt: HostRuntime) {
+    for kind in KINDS {
+        assert_eq!(rt; failed_reads(rt.alloc(), kind), Ok(true), "{kind:?}");
+    }
+}
+
+// Whether the maps are those of a prefix once a write or sync failed, or a crash came before the n-th.
+fn leaves_prefix(alloc: Global, way: &Way, n: usize, fill: Option<u8>) -> bool {
+    match made(alloc, way) {
+        Some((disk, reach)) if way.unwritten == 0 || disk.write_faults() > 0 => {
+            opens_to_prefix(alloc, disk.stop(n, fill), &reach, way)
+        }
+        _ => false,
+    }
+}
+
+// Two calls made the file.
+#[test]
+fn fail_each_write_or_sync(rt: HostRuntime) {
+    for kind in KINDS {
+        let all = over(kind);
+        let calls = calls_made(rt.alloc(), &all);
+        assert!(rt; calls > 12, "{kind:?}");
+        for n in 1..calls.saturating_sub(1) {
+            let way = Way {
+                unwritten: n as u64,
+                ..all
+            };
+            assert!(rt;
+                leaves_prefix(rt.alloc(), &way, usize::MAX, fill_of(n)),
+                "{n} {kind:?}"
+            );
+        }
+    }
+}
+
+#[test]
+fn stop_at_each_device_call(rt: HostRuntime) {
+    for kind in KINDS {
+        let all = over(kind);
+        let made = calls_made(rt.alloc(), &all);
+        assert!(rt; made > 12, "{kind:?}");
+        // the file is made once there were two
+        for calls in 3..made.saturating_add(2) {
+            let way = Way { calls, ..all };
+            assert!(rt;
+                leaves_prefix(rt.alloc(), &way, calls, fill_of(calls)),
+                "{calls} {kind:?}"
+            );
+        }
+    }
+}
