@@ -1,6 +1,14 @@
 pub mod Adding
+pub mod CallsFlushed
+pub mod CallsKeys
+pub mod CallsNames
+pub mod CallsReadBack
+pub mod CallsWords
 pub mod Changing
+pub mod Dropping
+pub mod DroppingNames
 pub mod Events
+pub mod FreeingPages
 pub mod Idle
 pub mod Keeping
 pub mod Lists

@@ -1,7 +1,7 @@
 -- Marks in the log: flushing, and batches.
 use Rattle.std.proofs.Common.{◌≡◌, ◌⊎◌, ◌∙◌, inl, inr, ℕ, true, false, List, [], ◌∷◌, Result, Ok, Err, refl, sym, ap, subst}
 use Rattle.std.proofs.lemmas.Bool.{false≢true}
-use Rattle.std.specs.Prelude.{⊤}
+use Rattle.std.specs.Prelude.{IsErr, ⊤}
 use Rattle.sled_base.specs.declared.types.Error.{Error}
 use Rattle.sled_log.specs.Contents.{Update, contents_from}
 use Rattle.sled_log.specs.Events.{Event, Pin, Seal, Cancel}
@@ -17,7 +17,7 @@ use Rattle.sled_pagecache.specs.declared.pagecache.handles.call.Call.{Call}
 use Rattle.sled_pagecache.specs.declared.pagecache.handles.call.Call.TheVariants as call
 use Rattle.sled_pagecache.specs.declared.pagecache.handles.call.Call.TheVariants.{Flush}
 use Rattle.sled_tree.specs.Changed.{LeaveSame, LeavesPages}
-use Rattle.sled_tree.specs.Maps.{KeepsMaps}
+use Rattle.sled_tree.specs.Maps.{FlushesMaps, KeepsMaps}
 use Rattle.sled_tree.specs.Performs.{Performs}
 use Rattle.sled_tree.proofs.Events.{leaves-follow, leaves-stay}
 use Rattle.sled_tree.proofs.Idle.{quiet-flushes}
@@ -98,6 +98,15 @@ module _ {L : Type 0} (g : Ghosts L) where
   pub flush-keeps : (answer : Result ℕ Error) (old new : Cache L) → IsMade g old Flush (Flushed answer) new → Performs g KeepsMaps old new
   flush-keeps answer old new made = of-outcome KeepsMaps Flush (Flushed answer) old new made
       (λ cache s out step. let quiet = quiet-flushes s out answer step in quiet-keeps Any s out.state out.changes (quiet.none, quiet.same, quiet.stuck))
+
+  -- one that was done is the one call
+  pub flush-done : (E : Type 0) (n : ℕ) (old new : Cache L) → IsMade g old Flush (Flushed (Ok n)) new → FlushesMaps {T = ℕ} {E = E} g (Ok n) old new
+  unfolding flush-keeps of-outcome weaker one
+  flush-done E n old new made = (flush-keeps (Ok n) old new made, refl)
+
+  pub flush-refused : {T E : Type 0} (answer : Result ℕ Error) (result : Result T E) → IsErr result → (old new : Cache L) → IsMade g old Flush (Flushed answer) new → FlushesMaps g result old new
+  flush-refused answer (Ok done) failed old new made = absurd (false≢true failed)
+  flush-refused answer (Err e) failed old new made = (flush-keeps answer old new made, tt)
 
   pub pin-keeps : (answer : Result (Unit {0}) Error) (old new : Cache L) → IsMade g old call.Pin (Pinned answer) new → Performs g KeepsMaps old new
   pin-keeps answer old new made = of-outcome KeepsMaps call.Pin (Pinned answer) old new made

@@ -39,10 +39,10 @@ use Rattle.sled_tree.proofs.Performing.{nothing as none-made}
 
 -- ---- the look at the named roots
 
-abbrev Said : Type 0
+abbrev pub Said : Type 0
 Said = Result (Token × meta.Roots) Error
 
-meta-read : (s : State) (told : Token × meta.Roots) (out : Outcome) → GetsMeta s (Ok told) out → (slice_get (contents_of s) 0 ≡ Some (Roots told.1)) × (out ≡ no_change s)
+pub meta-read : (s : State) (told : Token × meta.Roots) (out : Outcome) → GetsMeta s (Ok told) out → (slice_get (contents_of s) 0 ≡ Some (Roots told.1)) × (out ≡ no_change s)
 meta-read s told out step = split s.fault step (λ _ h. absurd (let e = h.0 in cc)) (λ _ h. by (page_at s 0) refl h)
   where
     of : (p : StampedPage) (c : Content) → p.content ≡ c → page_at s 0 ≡ Some p → Rattle.sled_pagecache.specs.Step.AreRoots c (λ roots. (◌≡◌ {A = Said} (Ok told) (Ok (Rattle.sled_pagecache.specs.State.token 0 p.stamp, roots))) × (out ≡ no_change s)) → (slice_get (contents_of s) 0 ≡ Some (Roots told.1)) × (out ≡ no_change s)
@@ -58,7 +58,7 @@ meta-read s told out step = split s.fault step (λ _ h. absurd (let e = h.0 in c
     by None at h = absurd h
     by (Some p) at h = of p p.content refl at h
 
-meta-quiet : (s : State) (answer : Result (Token × meta.Roots) Error) (out : Outcome) → GetsMeta s answer out → out ≡ no_change s
+pub meta-quiet : (s : State) (answer : Result (Token × meta.Roots) Error) (out : Outcome) → GetsMeta s answer out → out ≡ no_change s
 meta-quiet s answer out step = grind Rattle.std.proofs.Common.arith
 
 -- ---- a name is given its root
@@ -139,7 +139,7 @@ HasLeaf leaf pages w = (slice_get pages leaf ≡ Some (Node empty_leaf)) × IsOf
 abbrev HasEmpty : ℕ → ℕ → Fact
 HasEmpty leaf root pages w = HasLeaf leaf pages w × (slice_get pages root ≡ Some (Node (index_over leaf))) × IsOff pages w.maps root
 
-same-names : (pages : List Content) (a b : meta.Roots) → slice_get pages 0 ≡ Some (Roots a) → slice_get pages 0 ≡ Some (Roots b) → a ≡ b
+pub same-names : (pages : List Content) (a b : meta.Roots) → slice_get pages 0 ≡ Some (Roots a) → slice_get pages 0 ≡ Some (Roots b) → a ≡ b
 same-names pages a b at at' = let e : Some (Roots a) ≡ Some (Roots b) = sym at ∙ at' in cc
 
 -- the name is given its root: what the pages are behind it
@@ -189,7 +189,7 @@ module _ {L : Type 0} (g : Ghosts L) (name : Bytes) where
   failed-by result e is old new h = subst (λ (r : Result ℕ Error). Performs g (OfRoot name r) old new) (sym is)
       (weaker g KeepsMaps (OfRoot name (Err e)) old new (λ s t events k. record { follows = k.follows; does = λ w are. inl (k.stays w are tt) }) h)
 
-  looked : (look : Said) (old new : Cache L) → IsMade g old GetMeta (GotMeta look) new → Performs g Quiet old new
+  pub looked : (look : Said) (old new : Cache L) → IsMade g old GetMeta (GotMeta look) new → Performs g Quiet old new
   looked look old new made = weaker g (Answers g GetMeta (GotMeta look)) Quiet old new by (one g old new GetMeta (GotMeta look) made)
     where
       by : (s t : State) (events : List (Event Update)) → Answers g GetMeta (GotMeta look) s events t → Quiet s events t

@@ -25,7 +25,7 @@ leaves-part pages us zero leave = refl
 leaves-part pages [] (suc n) leave = refl
 leaves-part pages (u ∷ us) (suc n) (same, leave) = ap (λ (ps : List Content). contents_after ps (take n us)) same ∙ leaves-part pages us n leave
 
-leaves : (pages : List Content) (us : List (Event Update)) → LeaveSame pages us → contents_after pages us ≡ pages
+pub leaves : (pages : List Content) (us : List (Event Update)) → LeaveSame pages us → contents_after pages us ≡ pages
 leaves pages us leave = ap (λ (es : List (Event Update)). contents_after pages es) (sym (take_all (length us) us (omega arith))) ∙ leaves-part pages us (length us) leave
 
 pub passes-same : (pages : List Content) (us vs : List (Event Update)) → LeaveSame pages us → LeaveSame pages vs → Passes pages us vs

@@ -85,6 +85,10 @@ module _ (s : State) (out : Outcome) where
     replaces old node answer step =
         swaps old node answer _ _ (λ p at h. content old node answer (Put (Node node)) (Node node) (puts old node answer (Node node) p at) h) step
 
+    pub frees : (old : Token) (answer : Swapped (Unit {0})) → Frees messages no_room s old answer out → EndsSwap answer s (slice_set (contents_of s) old.pid Free) out.changes out.state
+    frees old answer step =
+        swaps old tt answer _ _ (λ p at h. content old tt answer (Put Free) Free (puts old tt answer Free p at) h) step
+
     -- a link that is applied
     linked-to : (old : Token) (link : NodeLink) (n : WholeNode) → slice_get (contents_of s) old.pid ≡ Some (Node n)
         → contents_from (contents_of s) (Change old.pid (link_update (messages old.pid) link (applied link n))) ≡ slice_set (contents_of s) old.pid (Node (applied link n))

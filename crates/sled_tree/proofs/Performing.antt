@@ -92,7 +92,7 @@ module _ {L : Type 0} (g : Ghosts L) where
     );
   }
 
-  pub weaker : (Is Also : Deed) (old new : Cache L) → ((s t : State) (events : List (Event Update)) → Is s events t → Also s events t) → Performs g Is old new → Performs g Also old new
+  unfoldable pub weaker : (Is Also : Deed) (old new : Cache L) → ((s t : State) (events : List (Event Update)) → Is s events t → Also s events t) → Performs g Is old new → Performs g Also old new
   weaker Is Also old new into h = record { calls = h.calls; made = h.made; so = λ s t outs runs. into s t (changes_of outs) (h.so s t outs runs) }
 
   -- ---- no call, and one
@@ -107,7 +107,7 @@ module _ {L : Type 0} (g : Ghosts L) where
   abbrev pub Answers : Call → Answer → Deed
   Answers asked answer s events t = (cache : Cache L) × (out : Outcome) × StepOver g cache s asked answer out × (events ≡ out.changes) × (t ≡ out.state)
 
-  pub one : (old new : Cache L) (asked : Call) (answer : Answer) → IsMade g old asked answer new → Performs g (Answers asked answer) old new
+  unfoldable pub one : (old new : Cache L) (asked : Call) (answer : Answer) → IsMade g old asked answer new → Performs g (Answers asked answer) old new
   one old new asked answer made = record { calls = (asked, answer) ∷ []; made = (new, made, refl); so = by }
     where
       by : (s t : State) (outs : List Outcome) → Runs g s ((asked, answer) ∷ []) outs t → Answers asked answer s (changes_of outs) t
@@ -198,7 +198,7 @@ module _ {L : Type 0} (g : Ghosts L) where
 
   -- ---- writing
 
-  stuck-swap : {R : Type 0} (s : State) (out : Outcome) (old : Token) (rejected : R) (answer : Swapped R) (goes_on : Content → Type 0) → Swaps s old rejected answer out goes_on → s.fault ≡ true → (answer ≡ Err (Rattle.sled_base.specs.declared.types.Error.TheVariants.Io Rattle.sled_base.specs.declared.types.Device.TheVariants.Write)) × (out ≡ no_change s)
+  pub stuck-swap : {R : Type 0} (s : State) (out : Outcome) (old : Token) (rejected : R) (answer : Swapped R) (goes_on : Content → Type 0) → Swaps s old rejected answer out goes_on → s.fault ≡ true → (answer ≡ Err (Rattle.sled_base.specs.declared.types.Error.TheVariants.Io Rattle.sled_base.specs.declared.types.Device.TheVariants.Write)) × (out ≡ no_change s)
   stuck-swap s out old rejected answer goes_on step kept = split s.fault step (λ _ h. h) (λ clear h. absurd (false≢true (sym clear ∙ kept)))
 
   stuck-tidied : {R : Type 0} (cache : Cache L) (s : State) (swap out : Outcome) (answer : Swapped R) (e : Error) → answer ≡ Err e → swap ≡ no_change s → TidiesIfSwapped (due_in g cache.config) (HasNoRoomAgain g) (IsBehind g cache.log) answer swap out → out ≡ no_change s

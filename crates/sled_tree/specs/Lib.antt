@@ -1,4 +1,6 @@
+pub mod Calls
 pub mod Changed
+pub mod Dropping
 pub mod Errors
 pub mod Limits
 pub mod Maps

@@ -1,13 +1,17 @@
 -- How calls change the maps of a cache: not at all, or one of them at one moment.
-use Rattle.std.specs.Prelude.{◌≡◌, ◌≢◌, ◌⊎◌, ℕ, true, false, List, [], Option, Some, None, Result, Ok, Err, ⊤}
+use Rattle.std.specs.Prelude.{◌≡◌, ◌≢◌, ◌⊎◌, ℕ, true, false, List, [], Option, Some, None, Result, Ok, Err, OnOk, ⊤}
 use Rattle.sled_base.specs.Order.{Bytes}
 use Rattle.sled_log.specs.Contents.{Content, Update, contents_after}
 use Rattle.sled_log.specs.Events.{Event}
 use Rattle.sled_node.specs.Pairs.{set_pair, del_pair}
+use Rattle.sled_log.specs.declared.log.Log.{Ghosts}
+use Rattle.sled_pagecache.specs.Cache.{Cache}
 use Rattle.sled_pagecache.specs.State.{State, contents_of}
 use Rattle.sled_search.specs.Calls.{Becomes}
 use Rattle.sled_search.specs.Map.{Map, at_key}
 use Rattle.sled_tree.specs.Named.{Named, AreNamed, with_map_at}
+use Rattle.sled_tree.specs.Performs.{Performs}
+use Rattle.sled_tree.specs.Prefixes.{flushes}
 use Rattle.sled_tree.specs.declared.trees.Tree.{Tree}
 
 -- the page of the map's root
@@ -66,3 +70,7 @@ SwapsKey root key old new (Err e) s events t w m = StaysUnlessFaulty s w events 
 pub record ChangesMap (root : ℕ) (Does : State → List (Event Update) → State → Named → Map → Type 0) (s : State) (events : List (Event Update)) (t : State) : Type 0 where
   pub follows : Follows s events t
   pub does : (w : Named) (m : Map) → AreNamed (contents_of s) w → w.maps root ≡ Some m → Does s events t w m
+
+-- Names and maps stay; and where that is answered, one of the calls of the cache was a flush that was done.
+abbrev pub FlushesMaps : {L T E : Type 0} → Ghosts L → Result T E → Cache L → Cache L → Type 0
+FlushesMaps g result old new = (does : Performs g KeepsMaps old new) × OnOk result (flushes does.calls ≡ true)

@@ -10,12 +10,16 @@
 //! - `splits`: the steps in which room is made
 //! - `swap`: setting a value, or taking one out, where another one stands
 //! - `neighbours`: the nearest pairs on either side of a bound, those between two, and how many there are
+//! - `freeing`: the pages of a map that is dropped
 //! - `examples`: what the definitions of these are, worked out
+//! - `calls`: that each call keeps the word that `openings` asks of it
 //! - `openings`: what holds of the maps of caches that are opened over one log, one after another
 #![tactic(auto)]
 
+pub mod calls;
 pub mod error;
 pub mod examples;
+mod freeing;
 mod neighbours;
 pub mod openings;
 mod place;

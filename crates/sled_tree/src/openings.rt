@@ -1,6 +1,6 @@
 //! What holds of the maps of caches that are opened over one log, one after another.
 
-ghost use Rattle.std.specs.Prelude.{◌≡◌, ◌⊎◌, ◌≤◌, ◌+◌, Bool, true, List, [], ◌∷◌, ◌++◌, length};
+ghost use Rattle.std.specs.Prelude.{◌≡◌, ◌⊎◌, ◌≤◌, ◌+◌, true, List, [], ◌∷◌, ◌++◌, length};
 ghost use Rattle.std.specs.List.{AllByRecursion};
 ghost use Rattle.sled_disk.specs.declared.disk.file.FileDisk.{FileDisk};
 ghost use Rattle.sled_disk.specs.declared.disk.memory.MemDisk.{MemDisk};
@@ -10,6 +10,7 @@ ghost use Rattle.sled_log.specs.Contents.{Content, Update};
 ghost use Rattle.sled_log.specs.Events.{Event, Pin, Seal};
 ghost use Rattle.sled_pagecache.specs.Openings.{IsEmpty};
 ghost use Rattle.sled_search.specs.Calls.{Call as Done, changes_of};
+ghost use Rattle.sled_tree.specs.Calls.{MapCall, Needs, Does};
 ghost use Rattle.sled_tree.specs.Named.{Named};
 ghost use Rattle.sled_tree.specs.Openings.{Deed, Opening, IsRun};
 ghost use Rattle.sled_tree.specs.Prefixes.{History, Survives, IsNoMark, flushes, history_from, history_after, named_by_now, nothing_named, ShowMaps};
@@ -20,15 +21,6 @@ use sled_pagecache::laws::a_served_cache_stays_as_it_is;
 use sled_pagecache::openings::every_opening_shows_a_prefix;
 use sled_pagecache::rows::calls_in_a_row_are_steps;
 
-/// The calls of the maps of a cache, each with its answer.
-pub trait MapCall {
-    /// What a call needs of the maps and their names, as that its root has a map.
-    ghost needs: { Self → Named → Type 0 };
-
-    /// What a call that was answered so makes of them: where no write has failed by its end, and where one has.
-    ghost does: { Self → Bool → Named → Named → Type 0 };
-}
-
 /// From an empty log, over every list of openings of maps, their calls, crashes at any moment, and logs handed on or rewritten: each
 /// opening's maps are those behind a prefix of the calls that were begun before, which holds all that were flushed and splits no batch, and
 /// its calls make of these what they say, one after another.
@@ -37,12 +29,12 @@ pub trait MapCall {
 /// the call makes them. So does a write that fails; from then on nothing is made until the log is opened again. A call that made a flush
 /// flushes all that came before it. What is left of an opening is opened again as `every_opening_shows_a_prefix` says it.
 ///
-/// What is asked of a call is `KeepsWord`: whichever maps and names the pages are, with what it needs, behind each of its changes they are
-/// these or what it makes of these. Where a call lacks what it needs, nothing is said of it, nor of what comes after.
-pub fn every_opening_shows_maps<L: Log, D: MapCall>()
-    ensures { L.tells → (log : L) (openings : List (Opening L D)) → IsEmpty L.Log log
-        → IsRun L.Log D.needs D.does log openings
-        → ShowMaps L.Log D.needs D.does (history_from [] nothing_named) openings }
+/// A run is made of what the contracts of the calls say (`each_call_keeps_its_word`). Where a call lacks what it needs, as one whose root has
+/// no map, nothing is said of it, nor of what comes after.
+pub fn every_opening_shows_maps<L: Log>()
+    ensures { L.tells → (log : L) (openings : List (Opening L MapCall)) → IsEmpty L.Log log
+        → IsRun L.Log Needs Does log openings
+        → ShowMaps L.Log Needs Does (history_from [] nothing_named) openings }
 {
     every_opening_shows_a_prefix::<L>();
     calls_in_a_row_are_steps::<L>();
@@ -50,49 +42,50 @@ pub fn every_opening_shows_maps<L: Log, D: MapCall>()
 }
 
 /// The same over a log on a disk in memory, which tells its bytes: whatever is torn, and wherever the disk stops.
-pub fn every_opening_of_a_disk_shows_maps<D: MapCall>()
+pub fn every_opening_of_a_disk_shows_maps()
     ensures { (log : DiskLog MemDisk ⟦<MemDisk as Disk>⟧)
-        (openings : List (Opening (DiskLog MemDisk ⟦<MemDisk as Disk>⟧) D))
+        (openings : List (Opening (DiskLog MemDisk ⟦<MemDisk as Disk>⟧) MapCall))
         → IsEmpty ⟦<DiskLog<MemDisk> as Log>⟧ log
-        → IsRun ⟦<DiskLog<MemDisk> as Log>⟧ D.needs D.does log openings
-        → ShowMaps ⟦<DiskLog<MemDisk> as Log>⟧ D.needs D.does
+        → IsRun ⟦<DiskLog<MemDisk> as Log>⟧ Needs Does log openings
+        → ShowMaps ⟦<DiskLog<MemDisk> as Log>⟧ Needs Does
         (history_from [] nothing_named) openings }
 {
-    every_opening_shows_maps::<DiskLog<MemDisk>, D>();
+    every_opening_shows_maps::<DiskLog<MemDisk>>();
 }
 
 /// The same over a log on a file of the system, if the system keeps its word: what that is, `SystemFile` says.
-pub fn every_opening_of_a_file_shows_maps<F: SystemFile, D: MapCall>()
+pub fn every_opening_of_a_file_shows_maps<F: SystemFile>()
     ensures { F.tells
         → (log : DiskLog (FileDisk F F.SystemFile) ⟦<FileDisk<F> as Disk>⟧)
-        (openings : List (Opening (DiskLog (FileDisk F F.SystemFile) ⟦<FileDisk<F> as Disk>⟧) D))
+        (openings : List
+        (Opening (DiskLog (FileDisk F F.SystemFile) ⟦<FileDisk<F> as Disk>⟧) MapCall))
         → IsEmpty ⟦<DiskLog<FileDisk<F>> as Log>⟧ log
-        → IsRun ⟦<DiskLog<FileDisk<F>> as Log>⟧ D.needs D.does log openings
-        → ShowMaps ⟦<DiskLog<FileDisk<F>> as Log>⟧ D.needs D.does
+        → IsRun ⟦<DiskLog<FileDisk<F>> as Log>⟧ Needs Does log openings
+        → ShowMaps ⟦<DiskLog<FileDisk<F>> as Log>⟧ Needs Does
         (history_from [] nothing_named) openings }
 {
-    every_opening_shows_maps::<DiskLog<FileDisk<F>>, D>();
+    every_opening_shows_maps::<DiskLog<FileDisk<F>>>();
 }
 
 /// The same over a log whose caller reads and writes its file (`StagedDisk`), if he keeps his word of the file: what that is, `CallersFile`
 /// says.
-pub fn every_opening_of_a_callers_file_shows_maps<F: CallersFile, D: MapCall>()
+pub fn every_opening_of_a_callers_file_shows_maps<F: CallersFile>()
     ensures { F.tells
         → (log : DiskLog (StagedDisk F F.CallersFile) ⟦<StagedDisk<F> as Disk>⟧)
         (openings : List
-        (Opening (DiskLog (StagedDisk F F.CallersFile) ⟦<StagedDisk<F> as Disk>⟧) D))
+        (Opening (DiskLog (StagedDisk F F.CallersFile) ⟦<StagedDisk<F> as Disk>⟧) MapCall))
         → IsEmpty ⟦<DiskLog<StagedDisk<F>> as Log>⟧ log
-        → IsRun ⟦<DiskLog<StagedDisk<F>> as Log>⟧ D.needs D.does log openings
-        → ShowMaps ⟦<DiskLog<StagedDisk<F>> as Log>⟧ D.needs D.does
+        → IsRun ⟦<DiskLog<StagedDisk<F>> as Log>⟧ Needs Does log openings
+        → ShowMaps ⟦<DiskLog<StagedDisk<F>> as Log>⟧ Needs Does
         (history_from [] nothing_named) openings }
 {
-    every_opening_shows_maps::<DiskLog<StagedDisk<F>>, D>();
+    every_opening_shows_maps::<DiskLog<StagedDisk<F>>>();
 }
 
 /// Where the last that was done made a flush and left the maps, a crash leaves exactly these.
-pub fn flushed_maps_survive<D: MapCall>()
-    ensures { (h : History) (deed : Deed D) (changes : List (Event Update)) (pages : List Content)
-        (w : Named) → flushes deed.calls ≡ true
+pub fn flushed_maps_survive()
+    ensures { (h : History) (deed : Deed MapCall) (changes : List (Event Update))
+        (pages : List Content) (w : Named) → flushes deed.calls ≡ true
         → Survives (history_after deed changes (named_by_now h) h) pages w → w ≡ named_by_now h }
 {}
 

@@ -5,7 +5,7 @@ ghost use Rattle.sled_pagecache.specs.Answers.{IsCovered};
 ghost use Rattle.sled_pagecache.specs.Batches.{CancelsBatch, SealsBatch};
 ghost use Rattle.sled_tree.specs.Changed.{LeavesPages};
 ghost use Rattle.sled_tree.specs.Errors.{IsOfCache};
-ghost use Rattle.sled_tree.specs.Maps.{KeepsMaps};
+ghost use Rattle.sled_tree.specs.Maps.{FlushesMaps, KeepsMaps};
 ghost use Rattle.sled_tree.specs.Performs.{Performs};
 ghost use Rattle.sled_tree.specs.declared.error.TreeError.TheVariants.{NoBatch};
 
@@ -29,7 +29,7 @@ impl<L: Log> Trees<L> {
 
     /// Makes all changes durable, and answers how many bytes that wrote. `BatchOpen` comes inside a batch.
     pub fn flush(&mut self) -> Result<usize, TreeError>
-        ensures maps { Performs L.Log KeepsMaps self.old self.new }
+        ensures maps { FlushesMaps L.Log result self.old self.new }
         ensures stable { OnOk result ((L.state self.new.log).pending ≡ []) }
         ensures number { IfOk result (λ n. n ≡ L.to_write self.old.log) }
         ensures errors { IfErr result IsOfCache }

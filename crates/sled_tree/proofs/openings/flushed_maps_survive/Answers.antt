@@ -2,4 +2,4 @@ use Rattle.sled_tree.proofs.OpeningsFlushed.{flushed-stay}
 use Rattle.sled_tree.proofs.openings.flushed_maps_survive.Goals as goal
 
 pub returns : goal.returns
-returns g c = flushed-stay
+returns c = flushed-stay
