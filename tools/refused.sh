@@ -4,13 +4,14 @@
 # - a script through `sledpc`, over a log in memory and over a file: what it replies, and the file, are those of the script without the line
 #   that is replied to by `error memory`;
 # - `sledpc crew`, which answers all its calls or `error memory`;
-# - tests of nodes, of the log on a disk, of the cache, and of the cache that threads share, whose calls change nothing where they are refused,
-#   and are made again.
+# - tests of nodes, of the log on a disk, of the cache, of ordered maps, and of the cache that threads share, whose calls change nothing where
+#   they are refused, and are made again.
 #
 #     tools/refused.sh
 #
 # It takes the program and the tests that `rt ci` has built, or `rt run` in crates/sledpc and `rt test` in crates/sled_node_tests, in
-# crates/sled_disk_tests, in crates/sled_pagecache_tests and in crates/sled_shared_tests. The status is 0 where all is so.
+# crates/sled_disk_tests, in crates/sled_pagecache_tests, in crates/sled_tree_tests and in crates/sled_shared_tests. The status is 0 where all
+# is so.
 set -eu
 
 top=$(CDPATH='' cd -- "$(dirname -- "$0")/.." && pwd)
@@ -18,8 +19,9 @@ program=$top/crates/sledpc/out/sledpc
 node=$top/crates/sled_node_tests/out/sled_node_tests_tests
 disk=$top/crates/sled_disk_tests/out/sled_disk_tests_tests
 cache=$top/crates/sled_pagecache_tests/out/sled_pagecache_tests_tests
+tree=$top/crates/sled_tree_tests/out/sled_tree_tests_tests
 shared=$top/crates/sled_shared_tests/out/sled_shared_tests_tests
-for built in "$program" "$node" "$disk" "$cache" "$shared"; do
+for built in "$program" "$node" "$disk" "$cache" "$tree" "$shared"; do
     [ -x "$built" ] || { echo "refused.sh: there is no program $built"; exit 1; }
 done
 
@@ -292,6 +294,7 @@ each_of_tests() {
         sizes::a_refused_allocation_leaves_the_next_measure snapshots::a_refused_allocation_leaves_the_next_snapshot; do
         each_of_test "$cache" "$name"
     done
+    each_of_test "$tree" faults::refuse_each_allocation
     each_of_test "$shared" refuse_each_allocation
     echo "refused.sh: tests: passed, with each of $refused requests refused"
 }

@@ -2,13 +2,15 @@ mod calls;
 mod compare;
 mod corners;
 mod faults;
+mod handles;
 mod listed;
 mod pairs;
 mod random;
 
+use sled_node::Item;
 use sled_tree::{
-    Config, Device, Disk, DiskLog, Error, IVec, Limits, Log, MemDisk, MemLog, PageCache, Tree,
-    TreeError, Trees,
+    Config, Device, Disk, DiskLog, Error, IVec, Limits, Log, MemDisk, MemLog, PageCache, PageId,
+    Tree, TreeError, Trees,
 };
 use std::alloc::{AllocError, Global};
 use std::collections::BTreeMap;

@@ -185,13 +185,7 @@ fn answers<L: Log>(alloc: Global, trees: &mut Trees<L>, call: &Call, wanted: Out
 pub(super) fn goes_on<L: Log>(alloc: Global, trees: &mut Trees<L>, plain: &Plain) -> bool {
     for (map, values) in plain.iter().enumerate() {
         if let Some(values) = values {
-            for (key, value) in values.iter().enumerate() {
-                let sets = Call::Inserts(map, key, SPARE);
-                if !answers(alloc, trees, &sets, Outcome::Was(*value)) {
-                    return false;
-                }
-            }
-            if !empties(alloc, trees, map) {
+            if !sets_all(alloc, trees, map, values) || !empties(alloc, trees, map) {
                 return false;
             }
         }
@@ -199,13 +193,47 @@ pub(super) fn goes_on<L: Log>(alloc: Global, trees: &mut Trees<L>, plain: &Plain
     true
 }
 
-fn empties<L: Log>(alloc: Global, trees: &mut Trees<L>, map: usize) -> bool {
-    for key in 0..KEYS {
-        if !answers(alloc, trees, &Call::Removes(map, key), Outcome::Was(SPARE))
-            || !answers(alloc, trees, &Call::Gets(map, key), Outcome::Was(0))
-        {
+fn sets_all<L: Log>(alloc: Global, trees: &mut Trees<L>, map: usize, values: &[u8; KEYS]) -> bool {
+    for (key, value) in values.iter().enumerate() {
+        let call = Call::Inserts(map, key, SPARE);
+        if !answers(alloc, trees, &call, Outcome::Was(*value)) {
             return false;
         }
     }
     true
+}
+
+fn empties<L: Log>(alloc: Global, trees: &mut Trees<L>, map: usize) -> bool {
+    for key in 0..KEYS {
+        if !answers(alloc, trees, &Call::Removes(map, key), Outcome::Was(SPARE)) {
+            return false;
+        }
+    }
+    true
+}
+
+// ---- their pages
+
+fn first_child<L: Log>(cache: &mut PageCache<L>, page: PageId) -> Option<PageId> {
+    match cache.get(page) {
+        Ok(Some(view)) if view.node().len() > 0 => match view.node().pair(0).1 {
+            Item::Child(child) => Some(child),
+            _ => None,
+        },
+        _ => None,
+    }
+}
+
+/// How many pages are above each other on the way to a map's first key.
+pub(super) fn levels<L: Log>(cache: &mut PageCache<L>, map: usize) -> usize {
+    let Ok(mut page) = cache.meta_pid_for_name(name_of(map)) else {
+        return 0;
+    };
+    for above in 0..9 {
+        let Some(child) = first_child(cache, page) else {
+            return above + 1;
+        };
+        page = child;
+    }
+    0
 }

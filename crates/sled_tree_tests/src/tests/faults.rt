@@ -1,6 +1,6 @@
 // Every fault, one at a time, over a list of calls on maps on a disk: each read, each write and sync, and a crash before each of these.
 
-use super::calls::{answer, goes_on, is_plain, outcome_of};
+use super::calls::{answer, goes_on, is_plain, levels, outcome_of};
 use super::listed::{Call, LIST, NEW, Opening, Outcome, Plain, behind, make, wanted};
 use super::*;
 use sled_pagecache::crashes::writes_and_syncs;
@@ -23,7 +23,7 @@ struct Way {
 }
 
 // The size of a segment, and for how many messages one is due.
-const KINDS: &[(u64, u64)] = &[(0, 0), (64, 2), (4096, 0)];
+const KINDS: &[(u64, u64)] = &[(0, 0), (512, 3), (4096, 0)];
 
 // What the n-th crash leaves in each byte that isn't synced, or that such bytes are as they were written.
 fn fill_of(n: usize) -> Option<u8> {
@@ -169,9 +169,12 @@ fn part_made(
     flushed(alloc, trees, reach, way)
 }
 
+// Where a read or an allocation is to fail, nearly each call reads.
 fn opened_once(alloc: Global, disk: MemDisk, way: &Way) -> Result<Disked, (Outcome, MemDisk)> {
+    let reads = way.is_refused || way.unread > 0;
+    let config = if reads { SMALL } else { CONFIG };
     match DiskLog::open(alloc, disk, way.segment_size, way.clean_every) {
-        Ok(log) => match PageCache::start(alloc, SMALL, log) {
+        Ok(log) => match PageCache::start(alloc, config, log) {
             Ok(cache) => Ok(maps_of(alloc, cache)),
             Err((error, log)) => Err((outcome_of(&error), log.into_disk())),
         },
@@ -241,20 +244,20 @@ fn calls_made(alloc: Global, way: &Way) -> usize {
 
 // ---- what is opened then
 
-// Whether the maps are those behind some of the calls, with all that a crash has to leave, and can be gone on with.
-fn shows_prefix(alloc: Global, trees: &mut Disked, reach: &Reach) -> bool {
+// Whether the maps are those behind some of the calls, with all that a crash has to leave, and can be gone on with, if that is tried.
+fn shows_prefix(alloc: Global, trees: &mut Disked, reach: &Reach, tries: bool) -> bool {
     for calls in reach.durable..reach.made.saturating_add(1) {
         let plain = behind(calls);
         if is_still(trees, &plain) {
-            return goes_on(alloc, trees, &plain);
+            return !tries || goes_on(alloc, trees, &plain);
         }
     }
     false
 }
 
-fn opens_to_prefix(alloc: Global, disk: MemDisk, reach: &Reach, way: &Way) -> bool {
+fn opens_to_prefix(alloc: Global, disk: MemDisk, reach: &Reach, way: &Way, tries: bool) -> bool {
     match opened_on(alloc, disk, way) {
-        Ok(mut trees) => shows_prefix(alloc, &mut trees, reach),
+        Ok(mut trees) => shows_prefix(alloc, &mut trees, reach, tries),
         Err(_) => false,
     }
 }
@@ -264,19 +267,31 @@ fn stands(alloc: Global, way: &Way) -> Option<bool> {
     let (disk, reach) = made(alloc, way)?;
     let is_met = disk.failed_reads() > 0;
     let is_all = reach.made == reach.durable;
-    (is_all && opens_to_prefix(alloc, disk, &reach, way)).then_some(is_met)
+    (is_all && opens_to_prefix(alloc, disk, &reach, way, true)).then_some(is_met)
+}
+
+// Whether the first map has more than two levels behind the list, since its root has grown, and the second has two.
+fn has_grown(alloc: Global) -> Option<bool> {
+    let way = over(&(4096, 0));
+    let (disk, _) = made(alloc, &way)?;
+    let trees = opened_on(alloc, disk, &way).ok()?;
+    let mut cache = trees.into_cache();
+    Some(levels(&mut cache, 0) > 2 && levels(&mut cache, 1) > 1)
+}
+
+#[test]
+fn the_list_grows_a_root(rt: HostRuntime) {
+    assert_eq!(rt; has_grown(rt.alloc()), Some(true));
 }
 
 // Without a refused allocation this shows that every call succeeds.
 #[test]
 fn refuse_each_allocation(rt: HostRuntime) {
-    for kind in [(64, 0), (512, 3)] {
-        let way = Way {
-            is_refused: true,
-            ..over(&kind)
-        };
-        assert_eq!(rt; stands(rt.alloc(), &way), Some(false), "{kind:?}");
-    }
+    let way = Way {
+        is_refused: true,
+        ..over(&(64, 2))
+    };
+    assert_eq!(rt; stands(rt.alloc(), &way), Some(false));
 }
 
 // Whether some read failed, and the list went on behind each that did; or the number of the read behind which it didn't.
@@ -302,11 +317,13 @@ fn fail_each_read(rt: HostRuntime) {
     }
 }
 
-// Whether the maps are those of a prefix once a write or sync failed, or a crash came before the n-th.
-fn leaves_prefix(alloc: Global, way: &Way, n: usize, fill: Option<u8>) -> bool {
+// Whether the maps are those of a prefix once a write or sync failed, or a crash came before the n-th. A frame takes four of these, so
+// what is left is gone on with at each fourth.
+fn leaves_prefix(alloc: Global, way: &Way, n: usize, place: usize) -> bool {
     match made(alloc, way) {
         Some((disk, reach)) if way.unwritten == 0 || disk.write_faults() > 0 => {
-            opens_to_prefix(alloc, disk.stop(n, fill), &reach, way)
+            let left = disk.stop(n, fill_of(place));
+            opens_to_prefix(alloc, left, &reach, way, place % 4 == 0)
         }
         _ => false,
     }
@@ -325,7 +342,7 @@ fn fail_each_write_or_sync(rt: HostRuntime) {
                 ..all
             };
             assert!(rt;
-                leaves_prefix(rt.alloc(), &way, usize::MAX, fill_of(n)),
+                leaves_prefix(rt.alloc(), &way, usize::MAX, n),
                 "{n} {kind:?}"
             );
         }
@@ -342,7 +359,7 @@ fn stop_at_each_device_call(rt: HostRuntime) {
         for calls in 3..made.saturating_add(2) {
             let way = Way { calls, ..all };
             assert!(rt;
-                leaves_prefix(rt.alloc(), &way, calls, fill_of(calls)),
+                leaves_prefix(rt.alloc(), &way, calls, calls),
                 "{calls} {kind:?}"
             );
         }

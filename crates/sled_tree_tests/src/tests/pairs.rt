@@ -24,9 +24,12 @@ fn tree_of(trees: &mut Trees<MemLog>, name: u8) -> Option<Tree> {
     trees.open(&[b'm', name]).ok()
 }
 
-/// A new map.
+/// A new map. Opened again, it is the same.
 pub(super) fn new_pair(alloc: Global, trees: &mut Trees<MemLog>, name: u8) -> Option<Pair> {
     let tree = tree_of(trees, name)?;
+    if tree_of(trees, name)? != tree {
+        return None;
+    }
     let plain = Plain::new(alloc);
     Some(Pair { name, tree, plain })
 }
