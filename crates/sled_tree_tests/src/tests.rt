@@ -4,13 +4,15 @@ mod corners;
 mod faults;
 mod handles;
 mod listed;
+mod ordered;
 mod pairs;
 mod random;
+mod swaps;
 
 use sled_node::Item;
 use sled_tree::{
     Config, Device, Disk, DiskLog, Error, IVec, Limits, Log, MemDisk, MemLog, PageCache, PageId,
-    Tree, TreeError, Trees,
+    Tree, TreeError, Trees, Why,
 };
 use std::alloc::{AllocError, Global};
 use std::collections::BTreeMap;

@@ -47,14 +47,24 @@ pub(super) fn outcome_of(error: &Error) -> Outcome {
         Error::OutOfMemory => Outcome::Unmade,
         Error::Io(Device::Read) => Outcome::Unread,
         Error::Io(Device::Write) => Outcome::Faulty,
+        Error::Unsupported(Why::BatchOpen) => Outcome::BatchOpen,
         _ => Outcome::Other,
     }
 }
 
 fn refused(error: &TreeError) -> Outcome {
     match error {
+        TreeError::NoBatch => Outcome::NoBatch,
         TreeError::Cache(error) => outcome_of(error),
         _ => Outcome::Other,
+    }
+}
+
+/// What a call answers that answers no value.
+pub(super) fn answer_of<T>(answer: &Result<T, TreeError>) -> Outcome {
+    match answer {
+        Ok(_) => Outcome::Done,
+        Err(error) => refused(error),
     }
 }
 

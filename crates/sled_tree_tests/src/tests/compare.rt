@@ -1,7 +1,8 @@
 // Lists of random calls, whose answers are those of a plain sorted map. The log is opened again in between.
 
-use super::pairs::{Pair, Shape, finds, gets, gets_all, inserts, new_pair, removes};
+use super::pairs::{Pair, Shape, finds_all, gets, gets_all, inserts, new_pairs, removes};
 use super::random::{Length, Random};
+use super::swaps::{Old, Swap, swaps};
 use super::*;
 
 // Which key comes next.
@@ -156,6 +157,21 @@ fn next_key(list: &List, random: &mut Random, call: u64) -> u64 {
     }
 }
 
+// The next swap: of each of these old values the new one is none a third of the times.
+fn next_swap(random: &mut Random, value: u64) -> Swap {
+    let old = match random.below(4) {
+        0 => Old::Missing,
+        1 => Old::Of(random.below(100_000)),
+        _ => Old::Present,
+    };
+    let new = if random.below(3) == 0 {
+        None
+    } else {
+        Some(value)
+    };
+    Swap { old, new }
+}
+
 // Whether the next call is answered as the plain map answers it.
 fn agrees(
     alloc: Global,
@@ -169,7 +185,11 @@ fn agrees(
     let value = random.below(100_000);
     match random.below(list.removes.saturating_add(10)) {
         0 => gets(alloc, trees, pair, list.shape, number),
-        1..10 => inserts(alloc, trees, pair, list.shape, number, value),
+        1..4 => {
+            let swap = next_swap(random, value);
+            swaps(alloc, trees, pair, list.shape, number, swap)
+        }
+        4..10 => inserts(alloc, trees, pair, list.shape, number, value),
         _ => removes(alloc, trees, pair, list.shape, number),
     }
 }
@@ -193,24 +213,6 @@ fn agreed(
         }
     }
     list.calls
-}
-
-fn new_pairs(alloc: Global, trees: &mut Trees<MemLog>, maps: u8) -> Option<Vec<Pair>> {
-    let mut pairs = Vec::new(alloc);
-    for name in 0..maps {
-        pairs.push(new_pair(alloc, trees, name)?).ok()?;
-    }
-    Some(pairs)
-}
-
-// Whether all maps are there once the log was opened again.
-fn finds_all(trees: &mut Trees<MemLog>, pairs: &mut [Pair]) -> bool {
-    for pair in pairs {
-        if !finds(trees, pair) {
-            return false;
-        }
-    }
-    true
 }
 
 // Whether all maps have what they should.

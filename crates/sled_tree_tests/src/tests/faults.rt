@@ -1,6 +1,6 @@
 // Every fault, one at a time, over a list of calls on maps on a disk: each read, each write and sync, and a crash before each of these.
 
-use super::calls::{answer, goes_on, is_plain, levels, outcome_of};
+use super::calls::{answer, answer_of, goes_on, is_plain, levels, outcome_of};
 use super::listed::{Call, LIST, NEW, Opening, Outcome, Plain, behind, make, wanted};
 use super::*;
 use sled_pagecache::crashes::writes_and_syncs;
@@ -127,55 +127,36 @@ fn all_made(
     true
 }
 
-// Leaves and indices of three.
-fn maps_of(alloc: Global, cache: PageCache<DiskLog<MemDisk>>) -> Disked {
-    Trees::with_limits(alloc, cache, Limits::new(3, 3))
-}
-
-fn flushes(cache: &mut PageCache<DiskLog<MemDisk>>) -> Outcome {
-    match cache.flush() {
-        Ok(_) => Outcome::Done,
-        Err(error) => outcome_of(&error),
+// Whether a flush answers as it should.
+fn flushes(trees: &mut Disked, reach: &mut Reach, way: &Way) -> bool {
+    let outcome = answer_of(&trees.flush());
+    if is_unwritten(trees) {
+        return outcome == Outcome::Faulty;
     }
-}
-
-// The maps behind a flush, if that answers as it should.
-fn flushed(alloc: Global, trees: Disked, reach: &mut Reach, way: &Way) -> Option<Disked> {
-    let mut cache = trees.into_cache();
-    let outcome = flushes(&mut cache);
-    let trees = maps_of(alloc, cache);
-    if is_unwritten(&trees) {
-        return (outcome == Outcome::Faulty).then_some(trees);
-    }
-    if !is_ended(&trees, way) {
+    if !is_ended(trees, way) {
         reach.durable = reach.made;
     }
-    (outcome == Outcome::Done).then_some(trees)
+    outcome == Outcome::Done
 }
 
+// Whether the calls of a part answer as they should, and the flush behind them, up to the end of the list.
 fn part_made(
     alloc: Global,
-    mut trees: Disked,
+    trees: &mut Disked,
     part: &[Call],
     reach: &mut Reach,
     way: &Way,
-) -> Option<Disked> {
-    if !all_made(alloc, &mut trees, part, reach, way) {
-        return None;
-    }
-    if is_ended(&trees, way) {
-        return Some(trees);
-    }
-    flushed(alloc, trees, reach, way)
+) -> bool {
+    all_made(alloc, trees, part, reach, way) && (is_ended(trees, way) || flushes(trees, reach, way))
 }
 
-// Where a read or an allocation is to fail, nearly each call reads.
+// The maps on a disk. Leaves and indices have three pairs and children, and where a read or an allocation is to fail, nearly each call reads.
 fn opened_once(alloc: Global, disk: MemDisk, way: &Way) -> Result<Disked, (Outcome, MemDisk)> {
     let reads = way.is_refused || way.unread > 0;
     let config = if reads { SMALL } else { CONFIG };
     match DiskLog::open(alloc, disk, way.segment_size, way.clean_every) {
         Ok(log) => match PageCache::start(alloc, config, log) {
-            Ok(cache) => Ok(maps_of(alloc, cache)),
+            Ok(cache) => Ok(Trees::with_limits(alloc, cache, Limits::new(3, 3))),
             Err((error, log)) => Err((outcome_of(&error), log.into_disk())),
         },
         Err((error, disk)) => Err((outcome_of(&Error::from(error)), disk)),
@@ -205,7 +186,9 @@ fn opening_made(
         }
     };
     for part in opening {
-        trees = part_made(alloc, trees, part, reach, way)?;
+        if !part_made(alloc, &mut trees, part, reach, way) {
+            return None;
+        }
     }
     log_of(trees).map(DiskLog::into_disk)
 }

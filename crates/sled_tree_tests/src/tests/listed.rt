@@ -22,6 +22,9 @@ pub(super) enum Outcome {
     Unmade,
     Unread,
     Faulty,
+    // a batch is open, and none is
+    BatchOpen,
+    NoBatch,
     Other,
 }
 

@@ -3,14 +3,14 @@
 use super::random::{Length, bytes_of};
 use super::*;
 
-type Plain = BTreeMap<IVec, IVec>;
+pub(super) type Plain = BTreeMap<IVec, IVec>;
 
 /// A map, and what it should have.
 #[derive(Drop)]
 pub(super) struct Pair {
     name: u8,
-    tree: Tree,
-    plain: Plain,
+    pub tree: Tree,
+    pub plain: Plain,
 }
 
 /// How long the keys and the values are.
@@ -43,6 +43,25 @@ pub(super) fn finds(trees: &mut Trees<MemLog>, pair: &mut Pair) -> bool {
         }
         None => false,
     }
+}
+
+/// New maps, so many.
+pub(super) fn new_pairs(alloc: Global, trees: &mut Trees<MemLog>, maps: u8) -> Option<Vec<Pair>> {
+    let mut pairs = Vec::new(alloc);
+    for name in 0..maps {
+        pairs.push(new_pair(alloc, trees, name)?).ok()?;
+    }
+    Some(pairs)
+}
+
+/// Whether all maps are there once their log was opened again.
+pub(super) fn finds_all(trees: &mut Trees<MemLog>, pairs: &mut [Pair]) -> bool {
+    for pair in pairs {
+        if !finds(trees, pair) {
+            return false;
+        }
+    }
+    true
 }
 
 // Whether a call answered this value.
