@@ -1,6 +1,7 @@
 mod calls;
 mod compare;
 mod corners;
+mod dropped;
 mod faults;
 mod handles;
 mod listed;

@@ -1,0 +1,122 @@
+// A map that is dropped, the pages that it had, and the names of the others.
+
+use super::pairs::{Pair, Shape, gets_all, inserts, new_pair};
+use super::random::Length;
+use super::*;
+
+const SHAPE: Shape = Shape {
+    keys: Length::Of(8),
+    values: Length::Of(3),
+};
+
+// A new map of so many pairs.
+fn filled(alloc: Global, trees: &mut Trees<MemLog>, name: u8, count: u64) -> Option<Pair> {
+    let mut pair = new_pair(alloc, trees, name)?;
+    for number in 0..count {
+        if !inserts(alloc, trees, &mut pair, SHAPE, number, number) {
+            return None;
+        }
+    }
+    Some(pair)
+}
+
+fn pages_in(trees: &Trees<MemLog>) -> Option<usize> {
+    Some(trees.cache().shape().ok()?.pages.len())
+}
+
+// Whether there is a map of this name, and none once it was dropped.
+fn drops(trees: &mut Trees<MemLog>, name: &[u8]) -> bool {
+    trees.drop_tree(name) == Ok(true) && trees.drop_tree(name) == Ok(false)
+}
+
+fn is_filled(alloc: Global, trees: &mut Trees<MemLog>, name: u8, count: u64) -> bool {
+    match filled(alloc, trees, name, count) {
+        Some(pair) => gets_all(alloc, trees, &pair, SHAPE, count),
+        None => false,
+    }
+}
+
+// Whether there are as many pages once a map was dropped and another one of as many pairs was made.
+fn are_used_again(alloc: Global, trees: &mut Trees<MemLog>, count: u64) -> bool {
+    let before = pages_in(trees);
+    before.is_some()
+        && drops(trees, b"m\x01")
+        && is_filled(alloc, trees, 2, count)
+        && pages_in(trees) == before
+}
+
+// The same beside a map that stays.
+fn are_used_beside(alloc: Global, trees: &mut Trees<MemLog>, count: u64) -> bool {
+    match filled(alloc, trees, 0, count) {
+        Some(kept) => {
+            is_filled(alloc, trees, 1, count)
+                && are_used_again(alloc, trees, count)
+                && gets_all(alloc, trees, &kept, SHAPE, count)
+        }
+        None => false,
+    }
+}
+
+fn are_used_in(alloc: Global, config: Config, count: u64) -> bool {
+    let log = MemLog::new(alloc, 512, 16);
+    match opened(alloc, config, log, Limits::new(4, 4)) {
+        Some(mut trees) => are_used_beside(alloc, &mut trees, count),
+        None => false,
+    }
+}
+
+#[test]
+fn the_pages_of_a_dropped_map_are_used_again(rt: HostRuntime) {
+    for count in [0, 1, 5, 200] {
+        for config in [CONFIG, SMALL] {
+            assert!(rt; are_used_in(rt.alloc(), config, count), "{count}");
+        }
+    }
+}
+
+const NAMES: &[&[u8]] = &[b"pear", b"apple", b"", b"fig"];
+
+fn opens_all(trees: &mut Trees<MemLog>) -> bool {
+    for name in NAMES {
+        if trees.open(name).is_err() {
+            return false;
+        }
+    }
+    true
+}
+
+fn are(names: &[IVec], wanted: &[&[u8]]) -> bool {
+    if names.len() != wanted.len() {
+        return false;
+    }
+    for i in 0..wanted.len() {
+        if names[i].as_slice() != wanted[i] {
+            return false;
+        }
+    }
+    true
+}
+
+fn names_are(trees: &Trees<MemLog>, wanted: &[&[u8]]) -> bool {
+    match trees.names() {
+        Ok(names) => are(&names, wanted),
+        Err(_) => false,
+    }
+}
+
+fn are_in_order(alloc: Global) -> bool {
+    let log = MemLog::new(alloc, 512, 16);
+    match opened(alloc, CONFIG, log, Limits::usual()) {
+        Some(mut trees) => {
+            opens_all(&mut trees)
+                && drops(&mut trees, b"fig")
+                && names_are(&trees, &[b"", b"apple", b"pear"])
+        }
+        None => false,
+    }
+}
+
+#[test]
+fn names_are_in_their_order(rt: HostRuntime) {
+    assert!(rt; are_in_order(rt.alloc()));
+}
