@@ -41,16 +41,16 @@ with_3 =
 
 -- ---- the split
 
-abbrev left_part : WholeNode
+abbrev pub left_part : WholeNode
 left_part = leaf [] (one 5) None ((1, 10) ∷ (3, 30) ∷ [])
 
-abbrev right_part : WholeNode
+abbrev pub right_part : WholeNode
 right_part = leaf (one 5) [] None ((5, 50) ∷ [])
 
-abbrev whole_leaf : WholeNode
+abbrev pub whole_leaf : WholeNode
 whole_leaf = leaf [] [] None ((1, 10) ∷ (3, 30) ∷ (5, 50) ∷ [])
 
-not-empty : one 5 ≢ []
+pub not-empty : one 5 ≢ []
 not-empty e = absurd (let h = e in cc)
 
 at_most-empty : (key : Bytes) → IsAtMost [] key
@@ -63,7 +63,7 @@ no-shorter (x ∷ b) lt = omega arith
 same-at-most : (a : Bytes) → bytes_cmp a a ≡ bytes_cmp (one 5) (one 5) → IsAtMost a a
 same-at-most a is lt = absurd (let h = lt in let e = is in cc)
 
-parts : SplitsBehind whole_leaf 2 left_part right_part
+pub parts : SplitsBehind whole_leaf 2 left_part right_part
 parts = record {
   pairs = refl;
   count = refl;
@@ -87,7 +87,7 @@ parts = record {
   right_prefix = refl;
 }
 
-whole_well : IsWellFormed whole_leaf
+pub whole_well : IsWellFormed whole_leaf
 whole_well = record {
   range = λ h. absurd (h refl);
   prefix_byte = omega arith;
@@ -102,7 +102,7 @@ whole_well = record {
   pages = (tt, tt);
 }
 
-left_well : IsWellFormed left_part
+pub left_well : IsWellFormed left_part
 left_well = record {
   range = λ _. refl;
   prefix_byte = omega arith;
@@ -117,7 +117,7 @@ left_well = record {
   pages = (tt, tt);
 }
 
-right_well : IsWellFormed right_part
+pub right_well : IsWellFormed right_part
 right_well = record {
   range = λ h. absurd (h refl);
   prefix_byte = omega arith;

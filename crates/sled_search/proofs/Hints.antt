@@ -20,7 +20,7 @@ use Rattle.sled_search.proofs.Search.{one_node}
 use Rattle.sled_search.proofs.Splits.{side, below_at_most}
 use Rattle.sled_search.proofs.Trees.{covers-stay}
 
-less-is : (o : Ordering) → is_lt o ≡ true → o ≡ Less
+pub less-is : (o : Ordering) → is_lt o ≡ true → o ≡ Less
 less-is Less h = refl
 less-is Equal h = absurd cc
 less-is Greater h = absurd cc

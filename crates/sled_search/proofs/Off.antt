@@ -9,7 +9,9 @@ use Rattle.sled_log.specs.Events.{Change}
 use Rattle.sled_node.specs.Node.{WholeNode}
 use Rattle.sled_search.specs.Map.{Map, at_key}
 use Rattle.sled_search.specs.Maps.{Maps, Reaches, AreTrees, IsOff, ChangesOne}
+use Rattle.sled_search.specs.Orderly.{IsAt, IsOrderly}
 use Rattle.sled_search.specs.Search.{HasNodeAt, LeadsTo, IsLeafOf, HasAt, Goes, Finds, Comes, IsTreeOf}
+use Rattle.sled_search.proofs.Orders.{same-order}
 use Rattle.sled_search.proofs.Paths.{rest-of, found-node}
 use Rattle.sled_search.proofs.Search.{goes-then}
 use Rattle.sled_search.proofs.Trees.{covers-stay}
@@ -54,11 +56,20 @@ module _ (pages changed : List Content) (p : ℕ) (one : ChangesOne pages p chan
     covers = covers-stay pages changed root m tree (λ key J found. off-kept key (λ pid n. J pid n.lo n.hi) found);
   }
 
+  off-at : (key : Bytes) (page : ℕ) (n : WholeNode) → IsAt changed root key page n → IsAt pages root key page n
+  off-at key page n ((t, goes), there) =
+      let was = goes-back key zero t root page refl goes in
+      ((t, was), sym (one page (not-there key t page was)) ∙ there)
+
+  pub off-order : IsOrderly pages root → IsOrderly changed root
+  off-order order = same-order pages changed root off-at order
+
 -- of all trees
 pub all-off : (pages changed : List Content) (maps : Maps) (p : ℕ) → AreTrees pages maps → IsOff pages maps p → ChangesOne pages p changed → AreTrees changed maps
 all-off pages changed maps p trees off one = record {
   each = λ root m is. off-tree pages changed p one root (off root (m, is)) m (trees.each root m is);
   apart = λ a b has has' other page x y. trees.apart a b has has' other page (off-reaches pages changed p one a (off a has) page x) (off-reaches pages changed p one b (off b has') page y);
+  orderly = λ root has. off-order pages changed p one root (off root has) (trees.orderly root has);
 }
 
 pub stays-off : (pages changed : List Content) (maps : Maps) (p : ℕ) → IsOff pages maps p → ChangesOne pages p changed → (page : ℕ) → IsOff pages maps page → IsOff changed maps page

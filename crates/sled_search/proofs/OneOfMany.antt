@@ -12,19 +12,21 @@ use Rattle.sled_search.specs.Map.{Map, leading}
 use Rattle.sled_search.specs.Maps.{Maps, HasTree, with_map, Reaches, AreTrees, IsOff, ChangesOne}
 use Rattle.sled_search.specs.Search.{Goes, Finds, Comes, ComesToLeafOf, IsLeafOf, IsTreeOf}
 use Rattle.sled_search.proofs.Hints.{tree-hinted}
+use Rattle.sled_search.proofs.OrdersKept.{leaf-order, child-order}
+use Rattle.sled_search.proofs.OrdersSplit.{in-place-order, hoisted-order}
 use Rattle.sled_search.proofs.Search.{found-so, leaf-there}
 use Rattle.sled_search.proofs.Separated.{right-some}
 use Rattle.sled_search.proofs.SplitTrees.{split-in-place, split-hoisted}
 use Rattle.sled_search.proofs.Splits.{with_next}
 use Rattle.sled_search.proofs.Together.{with-here, with-other, one-changed}
 use Rattle.sled_search.proofs.Trees.{with_pairs, tree-set, tree-del}
-use Rattle.sled_search.proofs.Ways.{leaf-ways, child-ways, split-ways, enter-first, enter-index}
+use Rattle.sled_search.proofs.Ways.{leaf-ways, child-ways, split-goes, split-ways, enter-first, enter-index}
 
 -- a page that was put
 pub set-one : (pages : List Content) (p : ℕ) (content : Content) → ChangesOne pages p (slice_set pages p content)
 set-one pages p content pid other = get_set_other pages p pid content (λ e. other (sym e))
 
-set-now : (pages : List Content) (p : ℕ) (n k : WholeNode) → slice_get pages p ≡ Some (Node n) → slice_get (slice_set pages p (Node k)) p ≡ Some (Node k)
+pub set-now : (pages : List Content) (p : ℕ) (n k : WholeNode) → slice_get pages p ≡ Some (Node n) → slice_get (slice_set pages p (Node k)) p ≡ Some (Node k)
 set-now pages p n k was = get_set_there pages p (Node k) (slice_get_within pages p (Node n) was)
 
 -- a search that comes to a leaf gets there
@@ -47,7 +49,7 @@ module _ (pages : List Content) (maps : Maps) (root : ℕ) (trees : AreTrees pag
     with-pairs pairs m' tree =
         let changed = slice_set pages p (Node (with_pairs n pairs)) in
         let one = set-one pages p (Node (with_pairs n pairs)) in
-        one-changed pages changed maps (with_map root m' maps) p root m' trees (m, is) one reached (with-other root m' maps) (with-here root m' maps) tree
+        one-changed pages changed maps (with_map root m' maps) p root m' trees (m, is) one reached (with-other root m' maps) (with-here root m' maps) tree (leaf-order pages changed root p (trees.orderly root (m, is)) one n pairs was leaf.0 (set-now pages p n (with_pairs n pairs) was))
         (λ page x. inl (leaf-ways pages changed p one n pairs was leaf.0 (set-now pages p n (with_pairs n pairs) was) root page x))
 
     pub set-among : (value : Bytes) → AreTrees (slice_set pages p (Node (with_pairs n (set_pair key (Value value) n.pairs)))) (with_map root (set_pair key value m) maps)
@@ -67,6 +69,7 @@ module _ (pages : List Content) (maps : Maps) (root : ℕ) (trees : AreTrees pag
         let changed = slice_set pages q (Node k) in
         let one = set-one pages q (Node k) in
         one-changed pages changed maps maps q root m trees (m, is) one reached (λ b other. refl) is (tree-hinted pages root m (trees.each root m is) q n at page was index up c leads child at_c ends some right)
+        (child-order pages changed root q (trees.orderly root (m, is)) one n at page was index up (set-now pages q n k was) c leads child at_c ends some right)
         (λ got x. inl (child-ways pages changed q one n at page was index up (set-now pages q n k was) c leads child at_c ends some right root got x))
 
     module _ (p : ℕ) (n l r : WholeNode) {many : ℕ} (reached : Reaches pages root p) (was : slice_get pages p ≡ Some (Node n)) (splits : SplitsBehind n many l r) (well : IsWellFormed n) (left_well : IsWellFormed l) (right_well : IsWellFormed r) (right : ℕ) (right_off : IsOff pages maps right) (at_right : slice_get pages right ≡ Some (Node r)) where
@@ -83,6 +86,8 @@ module _ (pages : List Content) (maps : Maps) (root : ℕ) (trees : AreTrees pag
           let now = set-now pages p n k was in
           let at_b : slice_get (slice_set pages p (Node (with_next l right))) right ≡ Some (Node r) = one right other ∙ at_right in
           one-changed pages changed maps maps p root m trees (m, is) one reached (λ b differ. refl) is (split-in-place pages root m (trees.each root m is) p n l r was splits left_well right_well some right at_right other)
+          (in-place-order pages changed root p (trees.orderly root (m, is)) one n l r splits left_well right_well some was reached p right now at_b (inl refl) (right_off root (m, is)) refl
+          (λ key t page goes. split-goes pages changed p one n l r splits left_well right_well some was p right now at_b root (enter-first pages changed p one n l r splits left_well right_well some was p right now at_b root refl) key t root page (inl (zero, refl)) goes))
           (λ page x. by page (split-ways pages changed p one n l r splits left_well right_well some was p right now at_b root (enter-first pages changed p one n l r splits left_well right_well some was p right now at_b root refl) page x))
         where
           by : (page : ℕ) → Reaches pages root page ⊎ ((page ≡ p) ⊎ (page ≡ right)) → Reaches pages root page ⊎ IsOff pages maps page
@@ -105,6 +110,8 @@ module _ (pages : List Content) (maps : Maps) (root : ℕ) (trees : AreTrees pag
             let at_a : slice_get (slice_set pages p (Node over_both)) left ≡ Some (Node (with_next l right)) = one left left_other ∙ at_left in
             let at_b : slice_get (slice_set pages p (Node over_both)) right ≡ Some (Node r) = one right right_other ∙ at_right in
             one-changed pages changed maps maps p root m trees (m, is) one reached (λ b differ. refl) is (split-hoisted pages root m (trees.each root m is) p n l r was splits left_well right_well some right at_right right_other left at_left left_other)
+            (hoisted-order pages changed root p (trees.orderly root (m, is)) one n l r splits left_well right_well some was reached left right at_a at_b (inr (left_off root (m, is))) (right_off root (m, is)) now
+            (λ key t page goes. split-goes pages changed p one n l r splits left_well right_well some was left right at_a at_b root (enter-index pages changed p one n l r splits left_well right_well some was left right at_a at_b root now) key t root page (inl (zero, refl)) goes))
             (λ page x. by page (split-ways pages changed p one n l r splits left_well right_well some was left right at_a at_b root (enter-index pages changed p one n l r splits left_well right_well some was left right at_a at_b root now) page x))
           where
             by : (page : ℕ) → Reaches pages root page ⊎ ((page ≡ left) ⊎ (page ≡ right)) → Reaches pages root page ⊎ IsOff pages maps page

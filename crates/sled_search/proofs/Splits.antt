@@ -33,7 +33,7 @@ some-leads pairs key pair rest is le = rw is (by (leading rest key) refl)
     by (Some item) h = (item, rw h refl)
     by None h = (pair.1, rw (h, lt-false (bytes_cmp key pair.0) le) refl)
 
-least-is : (index : Bool) (left : Option Bytes) (pairs : List (Bytes × Item)) (s : Bytes) → index ≡ true → SeparatesAt index left (least pairs) s → (pair : Bytes × Item) × (rest : List (Bytes × Item)) × (pairs ≡ pair ∷ rest) × (s ≡ pair.0)
+pub least-is : (index : Bool) (left : Option Bytes) (pairs : List (Bytes × Item)) (s : Bytes) → index ≡ true → SeparatesAt index left (least pairs) s → (pair : Bytes × Item) × (rest : List (Bytes × Item)) × (pairs ≡ pair ∷ rest) × (s ≡ pair.0)
 least-is true (Some left) (pair ∷ rest) s is h = (pair, rest, refl, h)
 least-is true (Some left) [] s is h = absurd h
 least-is true None pairs s is h = absurd h

@@ -2,20 +2,21 @@
 use Rattle.std.proofs.Common.{◌≡◌, ◌≢◌, ◌⊎◌, inl, inr, ℕ, zero, suc, ◌==◌, true, false, List, [], ◌∷◌, Option, None, Some, slice_get, refl, sym, ◌∙◌, subst, cond}
 use Rattle.std.proofs.lemmas.Bool.{cases_eq}
 use Rattle.std.proofs.lemmas.Bool.Decides.{eqb_tells}
-use Rattle.sled_base.specs.Order.{Bytes}
+use Rattle.sled_base.specs.Order.{Bytes, bytes_cmp, IsAtMost}
 use Rattle.sled_log.specs.Contents.{Content, Node}
 use Rattle.sled_node.specs.Children.{index_of}
 use Rattle.sled_node.specs.Node.{Item, Child, WholeNode, empty_leaf}
 use Rattle.sled_search.specs.Map.{Map}
 use Rattle.sled_search.specs.Maps.{Maps, HasTree, no_maps, with_map, without_map, Reaches, AreTrees, IsOff, ChangesOne}
+use Rattle.sled_search.specs.Orderly.{IsAt, IsOrderly}
 use Rattle.sled_search.specs.Search.{LeadsTo, Goes, IsTreeOf}
 use Rattle.sled_search.proofs.Empty.{empty-tree}
-use Rattle.sled_search.proofs.Off.{off-reaches, off-tree}
+use Rattle.sled_search.proofs.Off.{off-order, off-reaches, off-tree}
+use Rattle.sled_search.proofs.Orders.{Fits, fits-down, in-order}
 use Rattle.sled_search.proofs.Search.{one_node}
 use Rattle.sled_search.proofs.Separated.{never-below}
 use Rattle.sled_search.proofs.Leading.{lt-false}
 use Rattle.sled_search.proofs.SplitTrees.{all-keys}
-use Rattle.sled_base.specs.Order.{bytes_cmp}
 
 pub same-map : (m m' : Map) → ◌≡◌ {A = Option Map} (Some m) (Some m') → m ≡ m'
 same-map m m' h = cc
@@ -34,7 +35,7 @@ with-other root m maps b other = by (eqb_tells b root)
     by (inl same) = absurd (other same.1)
     by (inr differ) = rw differ.0 refl
 
-module _ (pages changed : List Content) (maps maps' : Maps) (p root : ℕ) (m' : Map) (trees : AreTrees pages maps) (has : HasTree maps root) (one : ChangesOne pages p changed) (at : Reaches pages root p) (others : (b : ℕ) → b ≢ root → maps' b ≡ maps b) (now : maps' root ≡ Some m') (tree : IsTreeOf changed root m') (grows : (page : ℕ) → Reaches changed root page → Reaches pages root page ⊎ IsOff pages maps page) where
+module _ (pages changed : List Content) (maps maps' : Maps) (p root : ℕ) (m' : Map) (trees : AreTrees pages maps) (has : HasTree maps root) (one : ChangesOne pages p changed) (at : Reaches pages root p) (others : (b : ℕ) → b ≢ root → maps' b ≡ maps b) (now : maps' root ≡ Some m') (tree : IsTreeOf changed root m') (order : IsOrderly changed root) (grows : (page : ℕ) → Reaches changed root page → Reaches pages root page ⊎ IsOff pages maps page) where
   had : (b : ℕ) → b ≢ root → HasTree maps' b → HasTree maps b
   had b other (m, is) = (m, sym (others b other) ∙ is)
 
@@ -63,10 +64,15 @@ module _ (pages changed : List Content) (maps maps' : Maps) (p root : ℕ) (m' :
   two a b has_a has_b differ page x y (inr other) (inl same) = let had_a = had a other has_a in from-root a had_a other page (subst (λ q. Reaches changed q page) same y) (was-there a had_a other page x)
   two a b has_a has_b differ page x y (inr other) (inr other') = let had_a = had a other has_a in let had_b = had b other' has_b in trees.apart a b had_a had_b differ page (was-there a had_a other page x) (was-there b had_b other' page y)
 
+  orderly-one : (b : ℕ) → HasTree maps' b → (b ≡ root) ⊎ (b ≡ root → ⊥) → IsOrderly changed b
+  orderly-one b has_b (inl same) = subst (λ q. IsOrderly changed q) (sym same) order
+  orderly-one b has_b (inr other) = let had_b = had b other has_b in off-order pages changed p one b (other-off b had_b other) (trees.orderly b had_b)
+
   pub one-changed : AreTrees changed maps'
   one-changed = record {
     each = λ b m is. each-one b m is (cases_eq b root);
     apart = λ a b has_a has_b differ page x y. two a b has_a has_b differ page x y (cases_eq a root) (cases_eq b root);
+    orderly = λ b has_b. orderly-one b has_b (cases_eq b root);
   }
 
 -- ---- no trees, and a tree more
@@ -78,7 +84,11 @@ pub none-there : (pages : List Content) → AreTrees pages no_maps
 none-there pages = record {
   each = λ root m is. absurd (not-some-map m is);
   apart = λ a b has has' differ page x y. not-some-map has.0 has.1;
+  orderly = λ root has. absurd (not-some-map has.0 has.1);
 }
+
+pub none-off : (pages : List Content) (page : ℕ) → IsOff pages no_maps page
+none-off pages page root has x = not-some-map has.0 has.1
 
 not-some-page : (page : ℕ) → ◌≡◌ {A = Option ℕ} None (Some page) → ⊥
 not-some-page page h = absurd (let e = h in cc)
@@ -130,16 +140,45 @@ module _ (pages : List Content) (maps : Maps) (root leaf : ℕ) (trees : AreTree
   new-two a b has_a has_b differ page x y (inr other) (inl same) = new-apart a (new-had a other has_a) page (subst (λ q. Reaches pages q page) same y) x
   new-two a b has_a has_b differ page x y (inr other) (inr other') = trees.apart a b (new-had a other has_a) (new-had b other' has_b) differ page x y
 
+  -- its pages are in order
+  new-node : (key : Bytes) (page : ℕ) (n : WholeNode) → IsAt pages root key page n → (n ≡ index) ⊎ (n ≡ empty_leaf)
+  new-node key page n ((t, goes), there) = by (two-pages key t page goes)
+    where
+      by : (root ≡ page) ⊎ (leaf ≡ page) → (n ≡ index) ⊎ (n ≡ empty_leaf)
+      by (inl same) = inl (one_node pages root index n at_root (subst (λ q. slice_get pages q ≡ Some (Node n)) (sym same) there))
+      by (inr same) = inr (one_node pages leaf empty_leaf n at_leaf (subst (λ q. slice_get pages q ≡ Some (Node n)) (sym same) there))
+
+  index-fits : (key : Bytes) (page to : ℕ) → LeadsTo index key to → Fits (λ _. []) key page to index
+  index-fits key page to (inl down) = fits-down (λ _. []) key page to index down (never-below []) (never-below key) (inl (never-below []), tt)
+  index-fits key page to (inr right) = absurd (right.0 (all-keys index refl refl key))
+
+  pub new-order : IsOrderly pages root
+  new-order = in-order pages root (λ _. []) refl (λ key page n at. low n (new-node key page n at)) (λ key page to n at leads. fits key page to n (new-node key page n at) leads)
+    where
+      low : (n : WholeNode) → (n ≡ index) ⊎ (n ≡ empty_leaf) → IsAtMost n.lo []
+      low n (inl same) = subst (λ (w : WholeNode). IsAtMost w.lo []) (sym same) (never-below [])
+      low n (inr same) = subst (λ (w : WholeNode). IsAtMost w.lo []) (sym same) (never-below [])
+
+      fits : (key : Bytes) (page to : ℕ) (n : WholeNode) → (n ≡ index) ⊎ (n ≡ empty_leaf) → LeadsTo n key to → Fits (λ _. []) key page to n
+      fits key page to n (inl same) leads = subst (λ (w : WholeNode). Fits (λ _. []) key page to w) (sym same) (index-fits key page to (subst (λ (w : WholeNode). LeadsTo w key to) same leads))
+      fits key page to n (inr same) leads = absurd (leads-nowhere key to (subst (λ (w : WholeNode). LeadsTo w key to) same leads))
+
+  new-orderly : (b : ℕ) → HasTree (with_map root [] maps) b → (b ≡ root) ⊎ (b ≡ root → ⊥) → IsOrderly pages b
+  new-orderly b has (inl same) = subst (λ q. IsOrderly pages q) (sym same) new-order
+  new-orderly b has (inr other) = trees.orderly b (new-had b other has)
+
   pub one-more : AreTrees pages (with_map root [] maps)
   one-more = record {
     each = λ b m is. new-each b m is (cases_eq b root);
     apart = λ a b has_a has_b differ page x y. new-two a b has_a has_b differ page x y (cases_eq a root) (cases_eq b root);
+    orderly = λ b has. new-orderly b has (cases_eq b root);
   }
 
-pub alone : (pages : List Content) (root : ℕ) (m : Map) → IsTreeOf pages root m → AreTrees pages (with_map root m no_maps)
-alone pages root m tree = record {
+pub alone : (pages : List Content) (root : ℕ) (m : Map) → IsTreeOf pages root m → IsOrderly pages root → AreTrees pages (with_map root m no_maps)
+alone pages root m tree order = record {
   each = λ b k is. each-alone b k is (cases_eq b root);
   apart = λ a b has has' differ page x y. differ (only a has (cases_eq a root) ∙ sym (only b has' (cases_eq b root)));
+  orderly = λ b has. subst (λ q. IsOrderly pages q) (sym (only b has (cases_eq b root))) order;
 }
   where
     each-alone : (b : ℕ) (k : Map) → with_map root m no_maps b ≡ Some k → (b ≡ root) ⊎ (b ≡ root → ⊥) → IsTreeOf pages b k
@@ -179,6 +218,7 @@ pub one-less : (pages : List Content) (maps : Maps) (root : ℕ) → AreTrees pa
 one-less pages maps root trees = record {
   each = λ b m is. trees.each b m (left-over root maps b m is).1;
   apart = λ a b has_a has_b differ page x y. trees.apart a b (has_a.0, (left-over root maps a has_a.0 has_a.1).1) (has_b.0, (left-over root maps b has_b.0 has_b.1).1) differ page x y;
+  orderly = λ b has. trees.orderly b (has.0, (left-over root maps b has.0 has.1).1);
 }
 
 pub dropped-off : (pages : List Content) (maps : Maps) (root page : ℕ) → AreTrees pages maps → HasTree maps root → Reaches pages root page → IsOff pages (without_map root maps) page

@@ -1,16 +1,12 @@
 -- Two roots over leaves of their own, and over one leaf.
-use Rattle.std.proofs.Common.{◌≡◌, ◌≢◌, ◌⊎◌, inl, inr, ℕ, List, [], refl, sym, ◌∙◌, subst, ◌<◌, arith}
+use Rattle.std.proofs.Common.{◌≡◌, ◌≢◌, ◌⊎◌, inl, inr, ℕ, [], refl, sym, ◌∙◌, subst, ◌<◌, arith}
 use Rattle.std.proofs.lemmas.Bool.{cases_eq}
-use Rattle.sled_log.specs.Contents.{Content}
 use Rattle.sled_search.specs.Examples.{over_one, two_trees, one_leaf_of_two}
 use Rattle.sled_search.specs.Maps.{HasTree, no_maps, with_map, Reaches, AreTrees, IsOff}
 use Rattle.sled_search.specs.Search.{LeadsTo, IsTreeOf}
 use Rattle.sled_search.proofs.Empty.{empty-tree}
 use Rattle.sled_search.proofs.SplitTrees.{all-keys}
-use Rattle.sled_search.proofs.Together.{none-there, not-some-map, one-more, two-pages, with-other}
-
-none-off : (pages : List Content) (page : ℕ) → IsOff pages no_maps page
-none-off pages page root has x = not-some-map has.0 has.1
+use Rattle.sled_search.proofs.Together.{none-off, none-there, not-some-map, one-more, two-pages, with-other}
 
 first : AreTrees two_trees (with_map 3 [] no_maps)
 first = one-more two_trees no_maps 3 2 (none-there two_trees) (none-off two_trees 3) (none-off two_trees 2) refl refl

@@ -19,10 +19,10 @@ use Rattle.sled_search.proofs.SplitTrees.{all-keys}
 use Rattle.sled_search.proofs.Splits.{with_next, side, leading-left, leading-right, in-left, in-right, left-in, right-in}
 use Rattle.sled_search.proofs.Trees.{with_pairs}
 
-same-child : (a b : ℕ) → ◌≡◌ {A = Option Item} (Some (Child a)) (Some (Child b)) → a ≡ b
+pub same-child : (a b : ℕ) → ◌≡◌ {A = Option Item} (Some (Child a)) (Some (Child b)) → a ≡ b
 same-child a b h = let e : Child a ≡ Child b = cc in cc
 
-same-next : (a b : ℕ) → ◌≡◌ {A = Option ℕ} (Some a) (Some b) → a ≡ b
+pub same-next : (a b : ℕ) → ◌≡◌ {A = Option ℕ} (Some a) (Some b) → a ≡ b
 same-next a b h = cc
 
 -- ---- a leaf with other pairs
@@ -36,7 +36,7 @@ module _ (pages changed : List Content) (p : ℕ) (one : ChangesOne pages p chan
   leaf-step key from next (inr other) first = node-was pages changed p one from other (λ k. LeadsTo k key next) first
   leaf-step key from next (inl same) (k, there, leads) = (n, ap (λ q. slice_get pages q) same ∙ was, leaf-leads key next (subst (λ (w : WholeNode). LeadsTo w key next) (one_node changed p (with_pairs n pairs) k now (subst (λ q. slice_get changed q ≡ Some (Node k)) same there)) leads))
 
-  leaf-goes : (key : Bytes) (t from to : ℕ) → Goes changed key t from to → Goes pages key t from to
+  pub leaf-goes : (key : Bytes) (t from to : ℕ) → Goes changed key t from to → Goes pages key t from to
   leaf-goes key zero from to is = is
   leaf-goes key (suc t) from to (next, first, rest) = (next, leaf-step key from next (cases_eq from p) first, leaf-goes key t next to rest)
 
@@ -77,7 +77,7 @@ module _ (pages changed : List Content) (q : ℕ) (one : ChangesOne pages q chan
   child-step key from next (inr other) got first = got-then key from next got (node-was pages changed q one from other (λ k. LeadsTo k key next) first)
   child-step key from next (inl same) got (k, there, leads) = from-index key next (subst (λ page. Got key page) same got) (subst (λ (w : WholeNode). LeadsTo w key next) (one_node changed q (with_child at sib n) k now (subst (λ page. slice_get changed page ≡ Some (Node k)) same there)) leads)
 
-  child-goes : (key : Bytes) (t from to : ℕ) → Got key from → Goes changed key t from to → Got key to
+  pub child-goes : (key : Bytes) (t from to : ℕ) → Got key from → Goes changed key t from to → Got key to
   child-goes key zero from to got is = subst (λ page. Got key page) is got
   child-goes key (suc t) from to got (next, first, rest) = child-goes key t next to (child-step key from next (cases_eq from q) got first) rest
 
@@ -122,7 +122,7 @@ module _ (pages changed : List Content) (p : ℕ) (one : ChangesOne pages p chan
     split-step key from next either (inr (inl here)) (k, there, leads) = from-first key next here.1 (subst (λ (w : WholeNode). LeadsTo w key next) (one_node changed a (with_next l b) k at_a (subst (λ page. slice_get changed page ≡ Some (Node k)) here.0 there)) leads)
     split-step key from next either (inr (inr here)) (k, there, leads) = from-second key next here.1.0 here.1.1 (subst (λ (w : WholeNode). LeadsTo w key next) (one_node changed b r k at_b (subst (λ page. slice_get changed page ≡ Some (Node k)) here.0 there)) leads)
 
-    split-goes : (key : Bytes) (t from to : ℕ) → Where key from → Goes changed key t from to → Where key to
+    pub split-goes : (key : Bytes) (t from to : ℕ) → Where key from → Goes changed key t from to → Where key to
     split-goes key zero from to at is = subst (λ page. Where key page) is at
     split-goes key (suc t) from to at (next, first, rest) = split-goes key t next to (split-step key from next (cases_eq from p) at first) rest
 

@@ -1,7 +1,7 @@
 -- Worked examples: the pages of small trees, one page a line, and what changes make of them.
-use Rattle.std.specs.Prelude.{ℕ, false, List, [], ◌∷◌, map, Option, Some, None}
+use Rattle.std.specs.Prelude.{ℕ, false, List, [], ◌∷◌, ◌++◌, map, Option, Some, None}
 use Rattle.sled_base.specs.Order.{Bytes}
-use Rattle.sled_log.specs.Contents.{Content, Roots, Counter, Node, Update, Put, Link}
+use Rattle.sled_log.specs.Contents.{Content, Free, Roots, Counter, Node, Update, Put, Link}
 use Rattle.sled_log.specs.Events.{Event, Change}
 use Rattle.sled_node.specs.Children.{index_of}
 use Rattle.sled_node.specs.Node.{Value, Child, WholeNode, empty_leaf}
@@ -90,6 +90,26 @@ four_calls =
     ∷ (split, alone three_pairs)
     ∷ []
 
+-- ---- and back to one
+
+abbrev pub merged_leaf : WholeNode
+merged_leaf = leaf [] [] None ((1, 10) ∷ (3, 30) ∷ (5, 50) ∷ [])
+
+-- The index without the right leaf, the left leaf with all pairs, and then the right leaf's page is free. Behind the first of these the pages
+-- are those of the split before its last.
+abbrev pub merge : List (Event Update)
+merge =
+    Change 3 (Put (Node (over_one 2)))
+    ∷ Change 2 (Put (Node merged_leaf))
+    ∷ Change 4 (Put Free)
+    ∷ []
+
+abbrev pub with_merged : List Content
+with_merged = cache_of (merged_leaf ∷ over_one 2 ∷ leaf (one 5) [] None ((5, 50) ∷ []) ∷ [])
+
+abbrev pub with_freed : List Content
+with_freed = one_leaf ++ Free ∷ []
+
 -- ---- two roots
 
 -- two new trees: the second leaf is on page 4, and its root on page 5
@@ -107,6 +127,28 @@ one_leaf_of_two = cache_of (
     empty_leaf
     ∷ over_one 2
     ∷ over_one 2
+    ∷ [])
+
+-- ---- trees whose pages are in no order
+
+-- The index leads to the right leaf by two pairs. Without the first of them a search goes there still.
+abbrev pub over_three : WholeNode
+over_three = index_of (([], Child 2) ∷ (one 5, Child 4) ∷ (one 7, Child 4) ∷ [])
+
+abbrev pub led_twice : List Content
+led_twice = cache_of (
+    leaf [] (one 5) (Some 4) ((1, 10) ∷ (3, 30) ∷ [])
+    ∷ over_three
+    ∷ leaf (one 5) [] None ((5, 50) ∷ [])
+    ∷ [])
+
+-- another index leads there too
+abbrev pub led_by_another : List Content
+led_by_another = cache_of (
+    leaf [] (one 5) (Some 4) ((1, 10) ∷ (3, 30) ∷ [])
+    ∷ over_two 2 (one 7) 5
+    ∷ leaf (one 5) [] None ((5, 50) ∷ [])
+    ∷ over_one 4
     ∷ [])
 
 -- ---- pages that are no tree

@@ -3,6 +3,8 @@ pub mod Changes
 pub mod Examples
 pub mod Map
 pub mod Maps
+pub mod Merging
 pub mod Ordered
+pub mod Orderly
 pub mod Routes
 pub mod Search

@@ -3,6 +3,7 @@ use Rattle.std.specs.Prelude.{◌≡◌, ◌≢◌, ℕ, ◌==◌, List, Option,
 use Rattle.sled_base.specs.Order.{Bytes}
 use Rattle.sled_log.specs.Contents.{Content}
 use Rattle.sled_search.specs.Map.{Map}
+use Rattle.sled_search.specs.Orderly.{IsOrderly}
 use Rattle.sled_search.specs.Search.{Goes, IsTreeOf}
 
 -- of each root that has a tree, its map
@@ -31,6 +32,7 @@ pub record AreTrees (pages : List Content) (maps : Maps) : Type 0 where
   pub each : (root : ℕ) (m : Map) → maps root ≡ Some m → IsTreeOf pages root m
   -- no page is reached from two roots
   pub apart : (a b : ℕ) → HasTree maps a → HasTree maps b → a ≢ b → (page : ℕ) → Reaches pages a page → Reaches pages b page → ⊥
+  pub orderly : (root : ℕ) → HasTree maps root → IsOrderly pages root
 
 -- no search is ever at the page
 abbrev pub IsOff : List Content → Maps → ℕ → Type 0

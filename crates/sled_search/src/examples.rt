@@ -2,13 +2,14 @@
 
 ghost use Rattle.std.specs.Prelude.{◌≡◌, [], ◌∷◌, ◌++◌, take, Some, None};
 ghost use Rattle.std.specs.declared.ops.Bound.TheVariants.{Included, Excluded, Unbounded};
-ghost use Rattle.sled_log.specs.Contents.{contents_after};
-ghost use Rattle.sled_search.specs.Calls.{AreCalls, changes_of, left_by};
+ghost use Rattle.sled_log.specs.Contents.{Free, contents_after};
+ghost use Rattle.sled_search.specs.Calls.{Becomes, AreCalls, changes_of, left_by};
 ghost use Rattle.sled_search.specs.Changes.{Passes};
-ghost use Rattle.sled_search.specs.Examples.{one, root, new_tree, one_leaf, half_way, two_leaves, three_pairs, sets, split, four_calls, two_trees, one_leaf_of_two, part_lost, led_astray, not_cut, pair_lost};
+ghost use Rattle.sled_search.specs.Examples.{one, root, new_tree, one_leaf, half_way, two_leaves, three_pairs, sets, split, four_calls, merge, with_merged, led_twice, led_by_another, two_trees, one_leaf_of_two, part_lost, led_astray, not_cut, pair_lost};
 ghost use Rattle.sled_search.specs.Map.{Map, at_key, leading};
-ghost use Rattle.sled_search.specs.Maps.{no_maps, with_map, AreTrees};
+ghost use Rattle.sled_search.specs.Maps.{no_maps, with_map, AreTrees, IsOff};
 ghost use Rattle.sled_search.specs.Ordered.{IsNextAbove, IsNextBelow, IsLeafBefore, GoesBefore};
+ghost use Rattle.sled_search.specs.Orderly.{IsOrderly};
 ghost use Rattle.sled_search.specs.Search.{HasNodeAt, Finds, HasAt, ComesToValue, IsTreeOf};
 
 /// Of pairs at 1, 3 and 5 one is at 3, none at 4, and the one at 3 leads both; none leads 0.
@@ -36,6 +37,16 @@ pub fn calls_of_several_changes()
     ensures calls { AreCalls AreTrees new_tree (with_map root [] no_maps) four_calls }
     ensures changes { changes_of four_calls ≡ sets ++ split }
     ensures cut { AreTrees (contents_after new_tree (take 5 (changes_of four_calls))) (left_by (with_map root [] no_maps) (take 3 four_calls)) }
+{}
+
+/// The two leaves are merged, by three events, behind each of which the map is the same: the pair to the right leaf is taken out of the index,
+/// the left leaf takes in the right one's pairs, to which no search goes any more, and the right leaf's page is freed.
+pub fn two_leaves_that_are_merged()
+    ensures call { Becomes AreTrees two_leaves (with_map root three_pairs no_maps) merge (with_map root three_pairs no_maps) }
+    ensures taken_out { contents_after two_leaves (take 1 merge) ≡ half_way }
+    ensures taken_in { contents_after two_leaves (take 2 merge) ≡ with_merged }
+    ensures off { IsOff with_merged (with_map root three_pairs no_maps) 4 }
+    ensures freed { contents_after two_leaves merge ≡ one_leaf ++ Free ∷ [] }
 {}
 
 /// An index over two leaves: a search goes down to a leaf, in one turn, and is answered by what that has.
@@ -70,6 +81,17 @@ pub fn two_roots()
     ensures two { AreTrees two_trees (with_map 5 [] (with_map 3 [] no_maps)) }
     ensures each { IsTreeOf one_leaf_of_two 3 [] × IsTreeOf one_leaf_of_two 4 [] }
     ensures not_two { AreTrees one_leaf_of_two (with_map 4 [] (with_map 3 [] no_maps)) → ⊥ }
+{}
+
+/// Trees whose pages are in no order: another pair or another index leads to the right leaf. If it were merged into the left one, and its page
+/// freed, searches would go there still. The pages of a new tree are in order, and those of two leaves under one index.
+pub fn trees_in_no_order()
+    ensures led_twice { IsTreeOf led_twice root three_pairs }
+    ensures twice_not { IsOrderly led_twice root → ⊥ }
+    ensures led_by_another { IsTreeOf led_by_another root three_pairs }
+    ensures another_not { IsOrderly led_by_another root → ⊥ }
+    ensures new { IsOrderly new_tree root }
+    ensures in_order { IsOrderly two_leaves root }
 {}
 
 /// Pages that are no tree at all: where the left part of a split leads nowhere, where an index leads keys to a node that doesn't have them,

@@ -1,17 +1,19 @@
 //! What each change of a page makes of several trees in the same pages.
 
-ghost use Rattle.std.specs.Prelude.{◌≡◌, ◌≢◌, ℕ, List, [], ◌∷◌, Some, true, slice_get, slice_set};
+ghost use Rattle.std.specs.Prelude.{◌≡◌, ◌≢◌, ℕ, List, [], ◌∷◌, Some, None, true, slice_get, slice_set};
 ghost use Rattle.sled_base.specs.Order.{Bytes};
 ghost use Rattle.sled_log.specs.Contents.{Content, Node, Update, Put, contents_from};
 ghost use Rattle.sled_log.specs.Events.{Change};
 ghost use Rattle.sled_node.specs.Children.{index_of, with_child};
-ghost use Rattle.sled_node.specs.Links.{applied};
+ghost use Rattle.sled_node.specs.Links.{applied, without_child};
 ghost use Rattle.sled_node.specs.Node.{WholeNode, whole, empty_leaf, Child, IsWellFormed};
 ghost use Rattle.sled_node.specs.Pairs.{IsAscending, set_pair, del_pair};
-ghost use Rattle.sled_node.specs.Splitting.{SplitsBehind};
-ghost use Rattle.sled_node.specs.declared.node.link.Link.TheVariants.{Set, Del};
+ghost use Rattle.sled_node.specs.Splitting.{SplitsBehind, CanReceive, merged};
+ghost use Rattle.sled_node.specs.declared.node.link.Link.TheVariants.{Set, Del, ParentMergeIntention, ParentMergeConfirm};
 ghost use Rattle.sled_search.specs.Map.{Map, leading};
 ghost use Rattle.sled_search.specs.Maps.{Maps, HasTree, no_maps, with_map, without_map, Reaches, AreTrees, IsOff, ChangesOne};
+ghost use Rattle.sled_search.specs.Merging.{AreUnder, AreBeside};
+ghost use Rattle.sled_search.specs.Orderly.{IsOrderly};
 ghost use Rattle.sled_search.specs.Search.{ComesToLeafOf, IsTreeOf};
 
 /// A page that no search is ever at may be changed in any way: the maps stay, and no search is at the pages where none was. A page without a
@@ -38,7 +40,7 @@ pub fn a_page_that_is_written_again_stays()
 pub fn a_new_tree_is_one_map_more()
     ensures none { (pages : List Content) → AreTrees pages no_maps }
     ensures alone { (pages : List Content) (root : ℕ) (m : Map) → IsTreeOf pages root m
-        → AreTrees pages (with_map root m no_maps) }
+        → IsOrderly pages root → AreTrees pages (with_map root m no_maps) }
     ensures one { (pages : List Content) (maps : Maps) (root leaf : ℕ) → AreTrees pages maps
         → IsOff pages maps root → IsOff pages maps leaf
         → slice_get pages root ≡ Some (Node (index_of (([], Child leaf) ∷ [])))
@@ -97,4 +99,38 @@ pub fn a_child_that_is_added_leaves_the_maps()
         → (child : WholeNode) → slice_get pages c ≡ Some (Node child) → child.hi ≡ at → at ≢ []
         → child.next ≡ Some page
         → AreTrees (slice_set pages q (Node (with_child at page n))) maps }
+{}
+
+/// An index leads to two nodes by one pair and the next, and the left one leads on to the right one. Without the pair to the right one it
+/// leaves all maps: searches go to the right one by the left one then. So the two lie as the law below has them.
+///
+/// It is what the two links of a merge make of an index of which no child is being merged.
+pub fn a_child_that_is_taken_out_leaves_the_maps()
+    ensures trees { (pages : List Content) (maps : Maps) (root : ℕ) → AreTrees pages maps
+        → HasTree maps root → (above : ℕ) (n : WholeNode) (left : ℕ) (l : WholeNode) (right : ℕ)
+        (r : WholeNode) → IsWellFormed n → AreUnder pages root above n left l right r → AreTrees
+        (slice_set pages above (Node (record n { pairs = without_child right n.pairs }))) maps }
+    ensures beside { (pages : List Content) (maps : Maps) (root : ℕ) → AreTrees pages maps
+        → HasTree maps root → (above : ℕ) (n : WholeNode) (left : ℕ) (l : WholeNode) (right : ℕ)
+        (r : WholeNode) → IsWellFormed n → AreUnder pages root above n left l right r → AreBeside
+        (slice_set pages above (Node (record n { pairs = without_child right n.pairs }))) root left l
+        right r }
+    ensures links { (n : WholeNode) (page : ℕ) → n.child ≡ None
+        → applied ParentMergeConfirm (applied (ParentMergeIntention page) n)
+        ≡ record n { pairs = without_child page n.pairs } }
+{}
+
+/// A node takes in its right neighbour, to which it leads a search for the neighbour's beginning. All maps stay, and no search is at the
+/// neighbour any more, so that its page may be freed: since pages are in order, none came there in another way.
+///
+/// Where an index leads to the neighbour too, that pair is taken out first, by the law above.
+pub fn a_node_that_takes_in_its_neighbour_leaves_the_maps()
+    ensures trees { (pages : List Content) (maps : Maps) (root : ℕ) → AreTrees pages maps
+        → HasTree maps root → (left : ℕ) (l : WholeNode) (right : ℕ) (r : WholeNode)
+        → AreBeside pages root left l right r → CanReceive l r → IsWellFormed l → IsWellFormed r
+        → AreTrees (slice_set pages left (Node (merged l r))) maps }
+    ensures off { (pages : List Content) (maps : Maps) (root : ℕ) → AreTrees pages maps
+        → HasTree maps root → (left : ℕ) (l : WholeNode) (right : ℕ) (r : WholeNode)
+        → AreBeside pages root left l right r → CanReceive l r → IsWellFormed l → IsWellFormed r
+        → IsOff (slice_set pages left (Node (merged l r))) maps right }
 {}
