@@ -1,8 +1,9 @@
 #!/bin/sh
-# Prints the libraries that a program in Rattle names, the lowest first.
+# Prints the libraries whose statements the gate keeps and a release has, the lowest first: those that a program in Rattle names, and those over
+# which the library for other languages is built.
 set -eu
 
 cd "$(CDPATH='' cd -- "$(dirname -- "$0")/../.." && pwd)"
-for top in sled_shared sled_tree; do
+for top in sled_shared sled_tree sled_handle; do
     tools/sum.sh --crates "$top"
 done | awk '!seen[$0]++'

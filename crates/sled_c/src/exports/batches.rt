@@ -1,13 +1,13 @@
 //! Opening and closing a batch.
 
-ghost use Rattle.sled_c.specs.Handles.{Through};
+ghost use Rattle.sled_handle.specs.Handles.{Through};
 ghost use Rattle.std.specs.Prelude.{⊤};
 ghost use Rattle.sled_pagecache.specs.Batches.{SealsBatch, CancelsBatch};
-ghost use Rattle.sled_c.specs.Steps.{Opens, Closes};
+ghost use Rattle.sled_handle.specs.Steps.{Opens, Closes};
 
-use crate::handle::Handle;
-use crate::status::CLOSED;
-use crate::through::batches as through;
+use sled_handle::Handle;
+use sled_handle::status::CLOSED;
+use sled_handle::through::batches as through;
 use std::alloc::Global;
 
 /// Opens a batch, of which a crash leaves all or nothing once it is sealed.

@@ -2,12 +2,11 @@
 
 ghost use Rattle.std.specs.Prelude.{◌≡◌};
 ghost use Rattle.sled_disk.specs.Staged.{Fails, Forgets};
-ghost use Rattle.sled_c.specs.Files.{Asks, HandsIn, HandsTask, Tells, TellsNeeds, needed_in, nothing_to_do};
+ghost use Rattle.sled_handle.specs.Files.{Asks, HandsIn, HandsTask, Tells, TellsNeeds, needed_in, nothing_to_do};
 
-use crate::handle::Handle;
-use crate::status::{CLOSED, OK};
-use crate::through::device as through;
-use crate::through::device::FileTask;
+use sled_handle::status::{CLOSED, OK};
+use sled_handle::through::device as through;
+use sled_handle::{FileTask, Handle};
 use std::alloc::Global;
 
 /// Writes what the program does next to the file, and the bytes of a write to the front of the buffer.

@@ -1,12 +1,12 @@
 //! Generated ids, and what is asked of the whole log.
 
 ghost use Rattle.std.specs.Prelude.{◌≡◌};
-ghost use Rattle.sled_c.specs.Handles.{Through, ThroughMemory};
-ghost use Rattle.sled_c.specs.Steps.{GivesId, MakesStable, MovesDue, TellsAmplification, TellsRecovered, TellsSize};
+ghost use Rattle.sled_handle.specs.Handles.{Through, ThroughMemory};
+ghost use Rattle.sled_handle.specs.Steps.{GivesId, MakesStable, MovesDue, TellsAmplification, TellsRecovered, TellsSize};
 
-use crate::handle::Handle;
-use crate::status::CLOSED;
-use crate::through::log as through;
+use sled_handle::Handle;
+use sled_handle::status::CLOSED;
+use sled_handle::through::log as through;
 use sled_pagecache::{Log, MemLog};
 use std::alloc::Global;
 

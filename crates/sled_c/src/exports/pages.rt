@@ -1,16 +1,15 @@
 //! Making, reading, changing and freeing a page.
 
 ghost use Rattle.std.specs.Prelude.{◌≡◌};
-ghost use Rattle.sled_c.specs.Handles.{Through};
+ghost use Rattle.sled_handle.specs.Handles.{Through};
 ghost use Rattle.sled_node.specs.declared.node.link.Link.TheVariants.{Set, Del};
-ghost use Rattle.sled_c.specs.Found.{GetsPage};
-ghost use Rattle.sled_c.specs.Steps.{AllocatesLeaf, FreesPage, MakesLink, ReplacesByLeaf};
-ghost use Rattle.sled_c.specs.Values.{GetsValue, written};
+ghost use Rattle.sled_handle.specs.Found.{GetsPage};
+ghost use Rattle.sled_handle.specs.Steps.{AllocatesLeaf, FreesPage, MakesLink, ReplacesByLeaf};
+ghost use Rattle.sled_handle.specs.Values.{GetsValue, written};
 
-use crate::calls::pages::Found;
-use crate::handle::Handle;
-use crate::status::CLOSED;
-use crate::through::pages as through;
+use sled_handle::status::CLOSED;
+use sled_handle::through::pages as through;
+use sled_handle::{Found, Handle};
 use std::alloc::Global;
 
 /// Puts a leaf of the pairs on a page, and writes which page and its stamp.

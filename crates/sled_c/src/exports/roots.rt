@@ -1,12 +1,12 @@
 //! Named roots.
 
 ghost use Rattle.std.specs.Prelude.{◌≡◌};
-ghost use Rattle.sled_c.specs.Handles.{Through};
-ghost use Rattle.sled_c.specs.Steps.{FindsRoot, OpensTree, SwapsRoot};
+ghost use Rattle.sled_handle.specs.Handles.{Through};
+ghost use Rattle.sled_handle.specs.Steps.{FindsRoot, OpensTree, SwapsRoot};
 
-use crate::handle::Handle;
-use crate::status::CLOSED;
-use crate::through::roots as through;
+use sled_handle::Handle;
+use sled_handle::status::CLOSED;
+use sled_handle::through::roots as through;
 use std::alloc::Global;
 
 /// Writes the root page of a name.

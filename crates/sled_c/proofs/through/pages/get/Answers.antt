@@ -1,6 +1,0 @@
-use Rattle.std.proofs.Common.{rules}
-use Rattle.sled_c.proofs.OverFile.{over_file}
-use Rattle.sled_c.proofs.through.pages.get.Goals as goal
-
-pub returns : goal.returns
-returns g c = over_file _ _ c.in-File.is (search rules) c.get-status.ensures c.told.ensures

@@ -1,0 +1,35 @@
+//! What holds of the definitions that the contracts of the calls cite.
+
+ghost use Rattle.std.specs.Prelude.{ℕ, List, Option};
+ghost use Rattle.sled_disk.specs.Staged.{Fails, Forgets, HandsOut, TakesIn};
+ghost use Rattle.sled_disk.specs.declared.disk.staged.tasks.Task.{Task};
+ghost use Rattle.sled_handle.specs.FileOpenings.{IsOpeningOver};
+ghost use Rattle.sled_handle.specs.Files.{OpeningIsBut, OpeningOver};
+ghost use Rattle.sled_handle.specs.Pairs.{IsReadAgain};
+
+use crate::opening::FileLog;
+use sled_disk::CallersFile;
+use sled_pagecache::{Log, Node};
+
+/// The pairs of a leaf, as `get` writes them, are the pairs of a leaf that `allocate` and `replace` make of them. Nothing is done.
+pub fn pairs_are_read_again(node: &Node)
+    ensures { IsReadAgain node.now }
+{
+    let _data = node.data();
+}
+
+/// What is asked of the disk of an opening, and told it, leaves the opening over the same bytes of its file.
+pub fn an_opening_stays_over_its_bytes<F: CallersFile>()
+    ensures handed_out { F.tells → (task : Option Task) (buffer bytes : List ℕ)
+        (old new : OpeningOver ⟦<FileLog<F> as Log>⟧)
+        → OpeningIsBut (HandsOut task buffer) old new
+        → IsOpeningOver bytes old → IsOpeningOver bytes new }
+    ensures taken_in { F.tells → (at : ℕ) (piece bytes : List ℕ)
+        (old new : OpeningOver ⟦<FileLog<F> as Log>⟧)
+        → OpeningIsBut (TakesIn at piece) old new
+        → IsOpeningOver bytes old → IsOpeningOver bytes new }
+    ensures forgotten { F.tells → (bytes : List ℕ) (old new : OpeningOver ⟦<FileLog<F> as Log>⟧)
+        → OpeningIsBut Forgets old new → IsOpeningOver bytes old → IsOpeningOver bytes new }
+    ensures failed { F.tells → (bytes : List ℕ) (old new : OpeningOver ⟦<FileLog<F> as Log>⟧)
+        → OpeningIsBut Fails old new → IsOpeningOver bytes old → IsOpeningOver bytes new }
+{}

@@ -1,0 +1,82 @@
+//! Reading pairs.
+
+ghost use Rattle.std.specs.Prelude.{◌≡◌, ◌≢◌, ◌<◌, ◌^◌, ◌++◌, List, length, map, IfOk, IfSome, IfNone};
+ghost use Rattle.std.specs.Int.{w32, to_le_bytes};
+ghost use Rattle.std.specs.Option.{SomeIff};
+ghost use Rattle.sled_base.specs.Order.{Bytes};
+ghost use Rattle.sled_node.specs.Node.{Value, WholeNode, leaf_of};
+ghost use Rattle.sled_node.specs.Pairs.{HasPairs, IsWithinLimit};
+ghost use Rattle.sled_handle.specs.Pairs.{EncodeLeaf, EncodePairs, IsShort, pair_bytes};
+
+use sled_pagecache::{Data, IVec, Leaf, Node};
+use std::alloc::{AllocError, Global};
+
+/// A leaf over all keys of the pairs that the bytes encode, or none where they encode none that a leaf can hold.
+pub fn leaf_in(alloc: Global, bytes: &[u8]) -> Result<Option<Node>, AllocError>
+    ensures some { IfOk result (λ found. IfSome found (EncodeLeaf bytes.now)) }
+    ensures none { IfOk result (λ found. IfNone found ((node : WholeNode)
+        → ¬ EncodeLeaf bytes.now node)) }
+{
+    let Some(pairs) = pairs_in(alloc, bytes)? else {
+        return Ok(None);
+    };
+    leaf_of(alloc, pairs)
+}
+
+// The leaf of these pairs over all keys, or none where a leaf can't hold them.
+fn leaf_of(alloc: Global, pairs: Vec<(IVec, IVec)>) -> Result<Option<Node>, AllocError>
+    ensures { IfOk result (λ node. SomeIff node (HasPairs IsWithinLimit pairs.items)
+        (leaf_of (map (λ pair. (pair.0, Value pair.1)) pairs.items))) }
+{
+    let Some(leaf) = Leaf::from_pairs(alloc, pairs)? else {
+        return Ok(None);
+    };
+    let (lo, hi) = (IVec::default(), IVec::default());
+    let contents = Data::Leaf(leaf);
+    Ok(Node::from_parts(0, None, None, false, lo, hi, contents))
+}
+
+// The pairs that the bytes encode, or none where they encode none.
+fn pairs_in(alloc: Global, bytes: &[u8]) -> Result<Option<Vec<(IVec, IVec)>>, AllocError>
+    ensures some { IfOk result
+        (λ found. IfSome found (λ pairs. EncodePairs bytes.now pairs.items)) }
+    ensures none { IfOk result (λ found. IfNone found ((pairs : List (Bytes × Bytes))
+        → ¬ EncodePairs bytes.now pairs)) }
+{
+    let mut pairs = Vec::new(alloc);
+    let mut left = bytes;
+    while !left.is_empty() {
+        let Some((key, value, behind)) = first_pair(left) else {
+            return Ok(None);
+        };
+        let key = IVec::from_slice(alloc, key)?;
+        let value = IVec::from_slice(alloc, value)?;
+        pairs.push((key, value))?;
+        left = behind;
+    }
+    Ok(Some(pairs))
+}
+
+// The first key, its value, and the bytes behind them, or none where no pair stands in front.
+fn first_pair(bytes: &[u8]) -> Option<(&[u8], &[u8], &[u8])>
+    ensures some { IfSome result (λ parts. IsShort (parts.0.now, parts.1.now)
+        × (bytes.now ≡ pair_bytes (parts.0.now, parts.1.now) ++ parts.2.now)) }
+    ensures none { IfNone result ((pair : Bytes × Bytes) → (behind : Bytes) → IsShort pair
+        → bytes.now ≢ pair_bytes pair ++ behind) }
+{
+    let (key_len, rest) = first_number(bytes)?;
+    let (value_len, rest) = first_number(rest)?;
+    let (key, rest) = rest.split_at_checked(key_len as usize)?;
+    let (value, behind) = rest.split_at_checked(value_len as usize)?;
+    Some((key, value, behind))
+}
+
+// The number of the first four bytes, the lowest first, and the bytes behind them, if there are so many.
+fn first_number(bytes: &[u8]) -> Option<(u32, &[u8])>
+    ensures some { IfSome result (λ parts. (parts.0 < 2 ^ 32)
+        × (bytes.now ≡ to_le_bytes w32 parts.0 ++ parts.1.now)) }
+    ensures none { IfNone result (length bytes.now < 4) }
+{
+    let (number, behind) = bytes.split_first_chunk::<4>()?;
+    Some((u32::from_le_bytes(*number), behind))
+}

@@ -1,0 +1,45 @@
+//! What each call does with the store behind a handle, over any file of a caller.
+//!
+//! Each answers a status, and `status` says what each of these leaves: CLOSED where a file is being opened and there is no cache yet, WRITE where
+//! a write or a sync of the file failed, NEEDS where bytes of the file are needed first, and NOT_OVER_FILE of a call that isn't made over one.
+//!
+//! - `opening`: opening a cache over a file, or its log alone
+//! - `pages`, `roots`, `batches`, `log`: as in `calls`
+//! - `device`: what is asked of the disk of a file, and told it
+//! - `rewriting`: rewriting a cache into another log
+
+// Makes a call on the cache of a store, over whichever log that is. One of which a file is being opened has no cache yet.
+macro_rules! through {
+    ($store:ident, $cache:ident => $call:expr) => {{
+        let $cache = match $store {
+            Store::Memory($cache) => return $call,
+            Store::File($cache) => $cache,
+            Store::Begun(_) => return CLOSED,
+        };
+        if has_failed($cache) {
+            return WRITE;
+        }
+        let status = $call;
+        told($cache, status)
+    }};
+}
+
+// The same of a call that isn't made over a file.
+macro_rules! in_memory {
+    ($store:ident, $cache:ident => $call:expr) => {
+        match $store {
+            Store::Memory($cache) => $call,
+            Store::File($cache) if has_failed($cache) => WRITE,
+            Store::File(_) => NOT_OVER_FILE,
+            Store::Begun(_) => CLOSED,
+        }
+    };
+}
+
+pub mod batches;
+pub mod device;
+pub mod log;
+pub mod opening;
+pub mod pages;
+pub mod rewriting;
+pub mod roots;

@@ -1,0 +1,42 @@
+//! Named roots.
+
+ghost use Rattle.std.specs.Prelude.{◌≡◌};
+ghost use Rattle.sled_handle.specs.Handles.{ThroughStore};
+ghost use Rattle.sled_handle.specs.Steps.{FindsRoot, OpensTree, SwapsRoot};
+
+use crate::calls::roots as calls;
+use crate::file::{has_failed, told};
+use crate::status::{CLOSED, WRITE};
+use crate::store::Store;
+use sled_disk::CallersFile;
+use std::alloc::Global;
+
+/// Writes the root page of a name, or answers NONE.
+pub fn root<F: CallersFile>(store: &mut Store<F>, name: &[u8], page: &mut u64) -> u32
+    ensures { ThroughStore store.old store.new result (page.new ≡ page.old)
+        (λ _ g old new status. FindsRoot g old new name.now status page.old page.new) }
+{
+    through!(store, cache => calls::root(cache, name, page))
+}
+
+/// Gives a name another root, where page 0 stands for none. Where it has another one than is given that is written, nothing changes, and the
+/// answer is STALE.
+pub fn cas_root<F: CallersFile>(store: &mut Store<F>, name: &[u8], root: &mut u64, next: u64) -> u32
+    ensures { ThroughStore store.old store.new result (root.new ≡ root.old)
+        (λ _ g old new status. SwapsRoot g old new name.now next status root.old root.new) }
+{
+    through!(store, cache => calls::cas_root(cache, name, root, next))
+}
+
+/// Writes the root page of a name. A name that has none is given an index over an empty leaf.
+pub fn open_tree<F: CallersFile>(
+    alloc: Global,
+    store: &mut Store<F>,
+    name: &[u8],
+    page: &mut u64,
+) -> u32
+    ensures { ThroughStore store.old store.new result (page.new ≡ page.old)
+        (λ _ g old new status. OpensTree g old new name.now status page.old page.new) }
+{
+    through!(store, cache => calls::open_tree(alloc, cache, name, page))
+}
