@@ -1,7 +1,7 @@
 #!/bin/sh
-# build.sh FOLDER [threads]: builds into the folder the programs that measure.sh and measure_file.sh need, or measure_threads.sh: `timed`,
-# and the peers of the script, or those of threads. It prints the names of the peers that were built, and a line `left out NAME PACKAGE`
-# for each whose package is missing.
+# build.sh FOLDER [threads | maps]: builds into the folder the programs that measure.sh and measure_file.sh need, or measure_threads.sh, or
+# measure_maps.sh: `timed`, and the peers of the script, or those of threads, or those of maps. It prints the names of the peers that were
+# built, and a line `left out NAME PACKAGE` for each whose package is missing.
 set -eu
 
 here=$(CDPATH='' cd -- "$(dirname -- "$(readlink -f -- "$0")")" && pwd)
@@ -42,5 +42,13 @@ threads)
     peer threads/lmdb_own lmdb.h liblmdb-dev -llmdb
     peer threads/sqlite sqlite3.h libsqlite3-dev -lsqlite3
     peer threads/sqlite_own sqlite3.h libsqlite3-dev -lsqlite3
+    ;;
+maps)
+    compile maps/plain_map.cpp plain_map
+    echo plain_map
+    peer ../maps/lmdb lmdb.h liblmdb-dev -llmdb
+    peer ../maps/lmdb_each lmdb.h liblmdb-dev -llmdb
+    peer ../maps/sqlite sqlite3.h libsqlite3-dev -lsqlite3
+    peer ../maps/rocksdb rocksdb/db.h librocksdb-dev -lrocksdb
     ;;
 esac

@@ -1,4 +1,4 @@
-# What measure.sh, measure_file.sh and measure_threads.sh share. Each sets `top`, `count` and `list`, sources this, and then has
+# What measure.sh, measure_file.sh, measure_threads.sh and measure_maps.sh share. Each sets `top`, `count` and `list`, sources this, and then has
 #
 #     start NAME SCRIPT INPUT    runs the program over the file INPUT with `timed`, from nothing kept; $work/out gets its replies,
 #                                and $work/report what `timed` says
@@ -35,7 +35,7 @@ work_in() {
     : >"$work/results"
 }
 
-# build_peers [threads]: builds the peers into $work. Their names are $peers.
+# build_peers [threads | maps]: builds the peers into $work. Their names are $peers.
 build_peers() {
     load_before=$(load)
     "$bench/build.sh" "$work" "$@" >"$work/built"
@@ -89,9 +89,9 @@ run_once() {
     compare_replies "$1" "$2"
 }
 
-# Every program replies to the examples as docs/SCRIPT.md says.
+# check_examples [FOLDER]: every program replies to these examples (examples) as the page of its script says, docs/SCRIPT.md or docs/KEYS.md.
 check_examples() {
-    for example in "$bench"/examples/*.script; do
+    for example in "${1:-$bench/examples}"/*.script; do
         without_own example <"${example%.script}.replies" >"$work/want"
         for name in $programs; do
             run_once "$name" "$(basename "$example")" "$example"

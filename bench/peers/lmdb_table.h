@@ -36,12 +36,15 @@ class Environment {
     Environment(const Environment &) = delete;
     Environment &operator=(const Environment &) = delete;
 
-    // A transaction that writes.
-    MDB_txn *begin() {
+    // A transaction that writes, or with MDB_RDONLY one that reads.
+    MDB_txn *begin(unsigned flags = 0) {
         MDB_txn *begun = nullptr;
-        check(mdb_txn_begin(opened, nullptr, 0, &begun));
+        check(mdb_txn_begin(opened, nullptr, flags, &begun));
         return begun;
     }
+
+    // All that was committed is durable.
+    void sync() { check(mdb_env_sync(opened, 1)); }
 
   private:
     Folder folder;

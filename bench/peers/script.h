@@ -347,9 +347,10 @@ inline void write_out(std::string &out) {
     out.clear();
 }
 
-// Serves all of standard input. Replies go out before a read that may wait, so a program at the other end of a pipe gets them.
-template <typename Store> void serve_input() {
-    Script<Store> script;
+// Serves all of standard input: a server appends the reply to each line. Replies go out before a read that may wait, so a program at the
+// other end of a pipe gets them.
+template <typename Server> void serve_input() {
+    Server server;
     std::vector<char> chunk(65536);
     std::string input, out;
     for (;;) {
@@ -360,25 +361,27 @@ template <typename Store> void serve_input() {
         input.append(chunk.data(), static_cast<std::size_t>(count));
         std::size_t at = 0;
         for (auto end = input.find('\n'); end != std::string::npos; end = input.find('\n', at)) {
-            script.serve(std::string_view(input).substr(at, end - at), out);
+            server.serve(std::string_view(input).substr(at, end - at), out);
             at = end + 1;
             if (out.size() >= chunk.size()) write_out(out);
         }
         input.erase(0, at);
         write_out(out);
     }
-    if (!input.empty()) script.serve(input, out);
+    if (!input.empty()) server.serve(input, out);
     write_out(out);
 }
 
-template <typename Store> int run() {
+template <typename Server> int run_server() {
     try {
-        serve_input<Store>();
+        serve_input<Server>();
     } catch (const std::exception &fault) {
         std::fprintf(stderr, "%s\n", fault.what());
         return 1;
     }
     return 0;
 }
+
+template <typename Store> int run() { return run_server<Script<Store>>(); }
 
 } // namespace script

@@ -73,8 +73,9 @@ class Statement {
         return *this;
     }
 
-    Statement &with(const std::string &bytes) {
-        database.check(sqlite3_bind_blob64(made, ++filled, bytes.data(), bytes.size(), SQLITE_STATIC));
+    // No bytes are a value too, and so never at no address, which would be NULL.
+    Statement &with(std::string_view bytes) {
+        database.check(sqlite3_bind_blob64(made, ++filled, bytes.empty() ? "" : bytes.data(), bytes.size(), SQLITE_STATIC));
         return *this;
     }
 
