@@ -63,7 +63,7 @@ lines_of_kind() {
     flushed | filled) pairs mixed 0 "$2" "$3" "$4" && echo flush ;;
     flushes_1) pairs mixed "$2" "$(($2 / 10))" "$3" "$4" | with_flushes 1 ;;
     flushes_*) pairs mixed "$2" "$2" "$3" "$4" | with_flushes "${1#flushes_}" ;;
-    gets) present get "$2" "$3" "$(at_least 100000 "$2")" '' ;;
+    gets) present get "$2" "$3" "$(at_least 300000 "$2")" '' ;;
     scans) present scan "$2" "$3" "$(at_least 10000 "$(($2 / 10))")" ' 100' ;;
     removals) removals "$2" "$3" ;;
     *) die "there is no script of $1" ;;
