@@ -16,15 +16,19 @@ list_scripts() {
     done
 }
 
-# list_over_file: the same for each script over a file
+# list_over_file: the same for each script over a file. A flush each 1 is dear, so there is one for a size, of the least count, and at most of
+# 10,000 keys.
 list_over_file() {
+    least=$(echo "$counts 10000" | tr ' ' '\n' | sort -n | head -n 1)
     for size in $sizes; do
+        bytes=${size%/*}-${size#*/}
+        echo "flushes_1-$least-$bytes nothing_over_file inserts, a flush each 1 | $least | ${size%/*} | ${size#*/}"
         for keys in $counts; do
-            each=$keys-${size%/*}-${size#*/} cells="$keys | ${size%/*} | ${size#*/}"
-            echo "filled-$each nothing_over_file inserts, a flush at the end | $cells"
-            for every in 1 100 10000; do
-                [ "$every" -gt "$keys" ] || echo "flushes_$every-$each filled-$each more inserts, a flush each $every | $cells"
+            cells="$keys | ${size%/*} | ${size#*/}"
+            for every in 100 10000; do
+                [ "$every" -ge "$keys" ] || echo "flushes_$every-$keys-$bytes nothing_over_file inserts, a flush each $every | $cells"
             done
+            echo "filled-$keys-$bytes nothing_over_file inserts, a flush at the end | $cells"
         done
     done
 }
@@ -39,8 +43,7 @@ is_over_file() {
 # setup_of NAME: the name of the setup of a script, or of a setup
 setup_of() {
     case $1 in
-    filled-*) echo nothing_over_file ;;
-    flushes_*) echo "filled-${1#*-}" ;;
+    filled-* | flushes_*) echo nothing_over_file ;;
     gets-* | scans-* | removals-*) echo "flushed-${1#*-}" ;;
     *) echo nothing ;;
     esac
@@ -55,14 +58,13 @@ script_lines() {
     esac
 }
 
-# lines_of_kind KIND KEYS KEY VALUE: of KEYS keys of KEY bytes, whose values have VALUE. A flush each 1 is dear, so it has fewer lines.
+# lines_of_kind KIND KEYS KEY VALUE: of KEYS keys of KEY bytes, whose values have VALUE
 lines_of_kind() {
     case $1 in
-    random) pairs mixed 0 "$2" "$3" "$4" ;;
-    rising) pairs rising 0 "$2" "$3" "$4" ;;
-    flushed | filled) pairs mixed 0 "$2" "$3" "$4" && echo flush ;;
-    flushes_1) pairs mixed "$2" "$(($2 / 10))" "$3" "$4" | with_flushes 1 ;;
-    flushes_*) pairs mixed "$2" "$2" "$3" "$4" | with_flushes "${1#flushes_}" ;;
+    random) pairs mixed "$2" "$3" "$4" ;;
+    rising) pairs rising "$2" "$3" "$4" ;;
+    flushed | filled) pairs mixed "$2" "$3" "$4" && echo flush ;;
+    flushes_*) pairs mixed "$2" "$3" "$4" | with_flushes "${1#flushes_}" ;;
     gets) present get "$2" "$3" "$(at_least 300000 "$2")" '' ;;
     scans) present scan "$2" "$3" "$(at_least 10000 "$(($2 / 10))")" ' 100' ;;
     removals) removals "$2" "$3" ;;
@@ -85,16 +87,14 @@ shared_awk='
     BEGIN { seed = 1 }
 '
 
-# pairs ORDER FROM KEYS KEY VALUE: a set of each of so many keys, from the one of this place on, to a value of its own
+# pairs ORDER KEYS KEY VALUE: a set of each key to a value of its own
 pairs() {
-    awk -v order="$1" -v from="$2" -v keys="$3" -v size="$4" -v bytes="$5" "$shared_awk"'
+    awk -v order="$1" -v keys="$2" -v size="$3" -v bytes="$4" "$shared_awk"'
         BEGIN {
             while (length(rest) < bytes - 8) rest = rest "value-of-a-pair."
             rest = substr(rest, 1, bytes - 8)
-            for (i = 0; i < from + keys; i++) {
-                name = order == "rising" ? sprintf("%0" size "d", i) : key()
-                if (i >= from) printf "set m %s %08x%s\n", name, (i * 48271) % 2147483647, rest
-            }
+            for (i = 0; i < keys; i++)
+                printf "set m %s %08x%s\n", order == "rising" ? sprintf("%0" size "d", i) : key(), (i * 48271) % 2147483647, rest
         }
     '
 }
