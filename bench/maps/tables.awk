@@ -79,31 +79,35 @@ function print_bytes(    i, j, line) {
     }
 }
 
+# A heading and a blank line, after another one behind what stands before it.
+function print_heading(text) {
+    if (headings++) print ""
+    print text "\n"
+}
+
 END {
     for (i = 1; i <= listed_count; i++) if (keys_of(listed[i]) + 0 > most) most = keys_of(listed[i]) + 0
     if (tables == "page") {
-        print "### Ordered maps: processor time of a line, microseconds, " thousands(most) " keys\n"
+        print_heading("### Ordered maps: processor time of a line, microseconds")
         if (has_of_sort(0)) print_sort(time, 0, most)
-        if (has_of_sort(1)) {
-            print "\nOver a file:\n"
-            print_sort(time, 1, most)
-        }
+        if (!has_of_sort(1)) exit
+        print_heading("Over a file:")
+        print_sort(time, 1, 0)
         exit
     }
     if (program[1] == "dilluvas") {
-        print "## `dilluvas`'s processor time over each other's\n"
+        print_heading("## `dilluvas`'s processor time over each other's")
         print_ratios()
-        print ""
     }
     if (has_of_sort(0)) {
-        print "## In memory: processor time of a line, microseconds\n"
+        print_heading("## In memory: processor time of a line, microseconds")
         print_sort(time, 0, 0)
     }
     if (!has_of_sort(1)) exit
-    print "\n## Over a file: processor time of a line, microseconds\n"
+    print_heading("## Over a file: processor time of a line, microseconds")
     print_sort(time, 1, 0)
-    print "\n## Over a file: wall time of a line, microseconds\n"
+    print_heading("## Over a file: wall time of a line, microseconds")
     print_sort(wall, 1, 0)
-    print "\n## Bytes of the files at the end\n"
+    print_heading("## Bytes of the files at the end")
     print_bytes()
 }
