@@ -295,6 +295,7 @@ each_of_tests() {
         each_of_test "$cache" "$name"
     done
     each_of_test "$tree" faults::refuse_each_allocation
+    each_of_test "$tree" batches::refuse_each_allocation
     each_of_test "$shared" refuse_each_allocation
     echo "refused.sh: tests: passed, with each of $refused requests refused"
 }

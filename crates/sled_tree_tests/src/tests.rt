@@ -1,3 +1,4 @@
+mod batches;
 mod calls;
 mod compare;
 mod corners;
@@ -5,10 +6,15 @@ mod dropped;
 mod faults;
 mod handles;
 mod listed;
+mod lists;
+mod names;
 mod ordered;
+mod over_disk;
 mod pairs;
 mod random;
+mod steps;
 mod swaps;
+mod tokens;
 
 use sled_node::Item;
 use sled_tree::{

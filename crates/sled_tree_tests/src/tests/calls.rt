@@ -128,6 +128,14 @@ fn asks<L: Log>(alloc: Global, trees: &mut Trees<L>, tree: Tree, call: &Call) ->
     }
 }
 
+/// Drops a map, and answers 1 where there was one, and 0 where not.
+pub(super) fn drops<L: Log>(trees: &mut Trees<L>, map: usize) -> Outcome {
+    match trees.drop_tree(name_of(map)) {
+        Ok(was_there) => Outcome::Was(u8::from(was_there)),
+        Err(error) => refused(&error),
+    }
+}
+
 /// What a call answers. It opens its map first.
 pub(super) fn answer<L: Log>(alloc: Global, trees: &mut Trees<L>, call: &Call) -> Outcome {
     let (Call::Opens(map) | Call::Inserts(map, _, _) | Call::Removes(map, _) | Call::Gets(map, _)) =
@@ -140,6 +148,10 @@ pub(super) fn answer<L: Log>(alloc: Global, trees: &mut Trees<L>, call: &Call) -
 
 // ---- what maps show
 
+fn is_named<L: Log>(cache: &PageCache<L>, name: &[u8]) -> bool {
+    cache.meta_pid_for_name(name).is_ok()
+}
+
 fn is_unnamed<L: Log>(cache: &PageCache<L>, name: &[u8]) -> bool {
     match cache.meta_pid_for_name(name) {
         Err(Error::CollectionNotFound(missing)) => missing.as_slice() == name,
@@ -147,7 +159,10 @@ fn is_unnamed<L: Log>(cache: &PageCache<L>, name: &[u8]) -> bool {
     }
 }
 
-fn has_values<L: Log>(trees: &mut Trees<L>, tree: Tree, values: &[u8; KEYS]) -> bool {
+fn has_values<L: Log>(trees: &mut Trees<L>, map: usize, values: &[u8; KEYS]) -> bool {
+    let Ok(tree) = tree_of(trees, map) else {
+        return false;
+    };
     for (key, value) in values.iter().enumerate() {
         if gets(trees, tree, key) != Outcome::Was(*value) {
             return false;
@@ -156,27 +171,18 @@ fn has_values<L: Log>(trees: &mut Trees<L>, tree: Tree, values: &[u8; KEYS]) -> 
     true
 }
 
-/// Whether all maps are there that should be, with the values that they should have.
+/// Whether all maps are there that should be, with the values that they should have. No map is made.
 pub(super) fn is_plain<L: Log>(trees: &mut Trees<L>, plain: &Plain) -> bool {
     for (map, values) in plain.iter().enumerate() {
-        let is_so = match (values, tree_if(trees, map, values.is_some())) {
-            (Some(values), Some(tree)) => has_values(trees, tree, values),
-            (None, None) => is_unnamed(trees.cache(), name_of(map)),
-            _ => false,
+        let is_so = match values {
+            Some(values) => is_named(trees.cache(), name_of(map)) && has_values(trees, map, values),
+            None => is_unnamed(trees.cache(), name_of(map)),
         };
         if !is_so {
             return false;
         }
     }
     true
-}
-
-fn tree_if<L: Log>(trees: &mut Trees<L>, map: usize, is_there: bool) -> Option<Tree> {
-    if is_there {
-        tree_of(trees, map).ok()
-    } else {
-        None
-    }
 }
 
 // A value that the list has nowhere.

@@ -59,6 +59,12 @@ const MIXED: Shape = Shape {
     values: VALUES,
 };
 
+// Keys of one byte, and values about what a log in memory keeps apart.
+const BYTES: Shape = Shape {
+    keys: Length::Of(1),
+    values: Length::Below(600),
+};
+
 // Keys that have their first 300 bytes in common.
 const LONG: Shape = Shape {
     keys: Length::Of(308),
@@ -122,6 +128,22 @@ const LISTS: &[List] = &[
         removes: 0,
         pairs: 32,
         children: 128,
+        ..LIST
+    },
+    List {
+        seed: 13,
+        shape: BYTES,
+        space: 256,
+        pairs: 3,
+        ..LIST
+    },
+    List {
+        seed: 14,
+        shape: LONG,
+        order: Order::Rising,
+        removes: 8,
+        pairs: 3,
+        is_small: true,
         ..LIST
     },
     // equal keys, rising ones and falling ones

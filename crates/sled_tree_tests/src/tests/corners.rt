@@ -1,10 +1,25 @@
-// Maps of few pairs and of many, with short keys and values and long ones, whose first, middle and last keys are set and taken out again.
+// Maps of few pairs and of many, with short keys and values and long ones, whose first, middle and last keys are set and taken out again. Then
+// all are taken out, and the leaves, which have nothing any more, are looked up in, and filled again.
 //
 // A key or a value above the limit has 2^31 bytes, and none is made here.
 
+use super::ordered::{agrees_between, sums_agree};
 use super::pairs::{Pair, Shape, finds, gets, gets_all, inserts, new_pair, removes};
 use super::random::Length;
 use super::*;
+
+// In which order the keys are set at first.
+#[derive(Clone, Copy, Debug)]
+enum Order {
+    Rising,
+    Falling,
+    // each second one, then the others
+    Mixed,
+    // the first key alone, as often
+    Equal,
+}
+
+const ORDERS: &[Order] = &[Order::Rising, Order::Falling, Order::Mixed, Order::Equal];
 
 // A map of so many pairs.
 #[derive(Clone, Copy)]
@@ -12,9 +27,8 @@ struct Corner {
     count: u64,
     shape: Shape,
     // how many pairs and children before a split
-    limit: usize,
-    // whether the last key is set first
-    is_falling: bool,
+    limits: (usize, usize),
+    order: Order,
 }
 
 const SHORT: Shape = Shape {
@@ -22,40 +36,57 @@ const SHORT: Shape = Shape {
     values: Length::Of(1),
 };
 
-// How many pairs, how many of them and of children a page may have before it is split, and whether the last key is set first.
-const SIZES: &[(u64, usize, bool)] = &[
-    (0, 3, false),
-    (1, 3, false),
-    (2, 3, true),
-    (3, 3, false),
-    (3, 3, true),
-    (16, 3, false),
-    (16, 16, false),
-    (17, 3, true),
-    (17, 16, false),
-    (17, 16, true),
-    (1000, 3, false),
-    (1000, 32, true),
+const COUNTS: &[u64] = &[0, 1, 2, 3, 16, 17, 33, 1000];
+
+const LIMITS: &[(usize, usize)] = &[(3, 3), (3, 4), (16, 16), (32, 128)];
+
+// With three children an index may be split into one of two and one of one, which makes maps of falling keys as deep as they have leaves.
+fn is_tried(count: u64, limits: (usize, usize)) -> bool {
+    count < 100 || limits.1 > 3
+}
+
+const LENGTHS: &[usize] = &[0, 1, 22, 23, 240, 241, 308, 2287];
+
+// How many pairs, and how long the keys and the values: all keys of one byte, and values about what a log in memory keeps apart.
+const SHAPES: &[(u64, usize, usize)] = &[
+    (256, 1, 1),
+    (256, 1, 23),
+    (17, 8, 512),
+    (17, 8, 513),
+    (33, 308, 512),
+    (9, 0, 100_000),
+    (9, 8, 100_000),
+    (5, 308, 100_000),
 ];
 
-const LENGTHS: &[usize] = &[0, 1, 22, 23, 240, 241, 2287];
-
-// What was set first, and what takes its place.
-const FIRST: u64 = 1;
-
+// What takes the place of what was set first.
 const SECOND: u64 = 2;
 
 const THIRD: u64 = 300;
 
+// The number of the key that is set in this place.
+fn number_at(corner: &Corner, place: u64) -> u64 {
+    let (last, middle) = (
+        corner.count.saturating_sub(1),
+        corner.count.saturating_sub(corner.count / 2),
+    );
+    match corner.order {
+        Order::Rising => place,
+        Order::Falling => last.saturating_sub(place),
+        Order::Mixed if place < middle => place.saturating_mul(2),
+        Order::Mixed => place
+            .saturating_sub(middle)
+            .saturating_mul(2)
+            .saturating_add(1),
+        Order::Equal => 0,
+    }
+}
+
 // Whether all keys are set.
 fn fills(alloc: Global, trees: &mut Trees<MemLog>, pair: &mut Pair, corner: &Corner) -> bool {
     for place in 0..corner.count {
-        let number = if corner.is_falling {
-            corner.count.saturating_sub(1).saturating_sub(place)
-        } else {
-            place
-        };
-        if !inserts(alloc, trees, pair, corner.shape, number, FIRST) {
+        let number = number_at(corner, place);
+        if !inserts(alloc, trees, pair, corner.shape, number, place) {
             return false;
         }
     }
@@ -82,7 +113,7 @@ fn changes(
             return false;
         }
     }
-    inserts(alloc, trees, pair, shape, number, FIRST)
+    inserts(alloc, trees, pair, shape, number, SECOND)
 }
 
 // Whether the first, the middle and the last key change so, and one behind all of them.
@@ -96,6 +127,22 @@ fn changes_all(alloc: Global, trees: &mut Trees<MemLog>, pair: &mut Pair, corner
     true
 }
 
+// Whether look-ups in the order of the keys answer what they should: without bounds, and between the first, middle and last keys.
+fn looks(alloc: Global, trees: &mut Trees<MemLog>, pair: &Pair, corner: &Corner) -> bool {
+    let (middle, end) = (
+        corner.count.saturating_add(2),
+        corner.count.saturating_mul(2),
+    );
+    for from in [0, 2, 3, middle, end, end.saturating_add(1)] {
+        for to in [0, 2, middle, end, end.saturating_add(3)] {
+            if !agrees_between(alloc, corner.shape, trees, pair, from, to) {
+                return false;
+            }
+        }
+    }
+    sums_agree(trees, pair)
+}
+
 // Whether all keys are taken out, and none is left.
 fn empties(alloc: Global, trees: &mut Trees<MemLog>, pair: &mut Pair, corner: &Corner) -> bool {
     let end = corner.count.saturating_add(2);
@@ -104,24 +151,22 @@ fn empties(alloc: Global, trees: &mut Trees<MemLog>, pair: &mut Pair, corner: &C
             return false;
         }
     }
-    gets_all(alloc, trees, pair, corner.shape, end)
+    gets_all(alloc, trees, pair, corner.shape, end) && looks(alloc, trees, pair, corner)
 }
 
-// Whether the pairs stand once the log was opened again, and are taken out.
+// Whether the pairs stand once the log was opened again, are taken out, and set once more.
 fn stands(alloc: Global, trees: &mut Trees<MemLog>, pair: &mut Pair, corner: &Corner) -> bool {
+    let end = corner.count.saturating_add(2);
     finds(trees, pair)
-        && gets_all(
-            alloc,
-            trees,
-            pair,
-            corner.shape,
-            corner.count.saturating_add(2),
-        )
+        && gets_all(alloc, trees, pair, corner.shape, end)
+        && looks(alloc, trees, pair, corner)
         && empties(alloc, trees, pair, corner)
+        && fills(alloc, trees, pair, corner)
+        && looks(alloc, trees, pair, corner)
 }
 
 fn walks(alloc: Global, corner: &Corner) -> Option<bool> {
-    let limits = Limits::new(corner.limit, corner.limit);
+    let limits = Limits::new(corner.limits.0, corner.limits.1);
     let mut trees = opened(alloc, CONFIG, MemLog::new(alloc, 512, 16), limits)?;
     let mut pair = new_pair(alloc, &mut trees, b'c')?;
     let is_changed = fills(alloc, &mut trees, &mut pair, corner)
@@ -130,37 +175,65 @@ fn walks(alloc: Global, corner: &Corner) -> Option<bool> {
     Some(is_changed && stands(alloc, &mut trees, &mut pair, corner))
 }
 
+// How many orders of so many keys are right, before the first that isn't.
+fn orders_walked(alloc: Global, count: u64, limits: (usize, usize)) -> usize {
+    if !is_tried(count, limits) {
+        return ORDERS.len();
+    }
+    for (place, order) in ORDERS.iter().enumerate() {
+        let corner = Corner {
+            count,
+            shape: SHORT,
+            limits,
+            order: *order,
+        };
+        if walks(alloc, &corner) != Some(true) {
+            return place;
+        }
+    }
+    ORDERS.len()
+}
+
 #[test]
 fn maps_of_few_pairs_and_of_many(rt: HostRuntime) {
-    for (count, limit, is_falling) in SIZES {
-        let corner = Corner {
-            count: *count,
-            shape: SHORT,
-            limit: *limit,
-            is_falling: *is_falling,
-        };
-        assert_eq!(rt;
-            walks(rt.alloc(), &corner),
-            Some(true),
-            "{count} {limit} {is_falling}"
-        );
+    for count in COUNTS {
+        for limits in LIMITS {
+            assert_eq!(rt;
+                orders_walked(rt.alloc(), *count, *limits),
+                ORDERS.len(),
+                "{count} {limits:?}"
+            );
+        }
     }
+}
+
+fn shape_walks(alloc: Global, count: u64, keys: usize, values: usize) -> bool {
+    let corner = Corner {
+        count,
+        shape: Shape {
+            keys: Length::Of(keys),
+            values: Length::Of(values),
+        },
+        limits: (3, 3),
+        order: Order::Rising,
+    };
+    walks(alloc, &corner) == Some(true)
 }
 
 #[test]
 fn short_keys_and_values_and_long_ones(rt: HostRuntime) {
     for keys in LENGTHS {
         for values in LENGTHS {
-            let corner = Corner {
-                count: 17,
-                shape: Shape {
-                    keys: Length::Of(*keys),
-                    values: Length::Of(*values),
-                },
-                limit: 3,
-                is_falling: false,
-            };
-            assert_eq!(rt; walks(rt.alloc(), &corner), Some(true), "{keys} {values}");
+            assert!(rt;
+                shape_walks(rt.alloc(), 17, *keys, *values),
+                "{keys} {values}"
+            );
         }
+    }
+    for (count, keys, values) in SHAPES {
+        assert!(rt;
+            shape_walks(rt.alloc(), *count, *keys, *values),
+            "{count} {keys} {values}"
+        );
     }
 }

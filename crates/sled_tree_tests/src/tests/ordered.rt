@@ -43,6 +43,12 @@ const MIXED: Shape = Shape {
     values: VALUES,
 };
 
+// Keys of one byte, and values about what a log in memory keeps apart.
+const BYTES: Shape = Shape {
+    keys: Length::Of(1),
+    values: Length::Below(600),
+};
+
 const LONG: Shape = Shape {
     keys: Length::Of(308),
     values: VALUES,
@@ -70,6 +76,27 @@ const ROWS: &[Row] = &[
     Row {
         seed: 5,
         taken: (0, 200),
+        ..ROW
+    },
+    // all but the first, and all but the last
+    Row {
+        seed: 10,
+        taken: (1, 200),
+        limit: 3,
+        ..ROW
+    },
+    Row {
+        seed: 11,
+        taken: (0, 199),
+        limit: 3,
+        ..ROW
+    },
+    Row {
+        seed: 12,
+        shape: BYTES,
+        sets: 600,
+        space: 256,
+        taken: (16, 240),
         ..ROW
     },
     Row {
@@ -189,6 +216,21 @@ fn agrees(trees: &mut Trees<MemLog>, pair: &Pair, from: &Bound<IVec>, to: &Bound
     }
 }
 
+/// The same of the bounds with these numbers.
+pub(super) fn agrees_between(
+    alloc: Global,
+    shape: Shape,
+    trees: &mut Trees<MemLog>,
+    pair: &Pair,
+    from: u64,
+    to: u64,
+) -> bool {
+    match (bound_of(alloc, shape, from), bound_of(alloc, shape, to)) {
+        (Ok(from), Ok(to)) => agrees(trees, pair, &from, &to),
+        _ => false,
+    }
+}
+
 // The same of many bounds.
 fn all_agree(
     alloc: Global,
@@ -200,23 +242,15 @@ fn all_agree(
     let end = row.space.saturating_add(1).saturating_mul(2);
     for _ in 0..BOUNDS {
         let (from, to) = (random.below(end), random.below(end));
-        match (
-            bound_of(alloc, row.shape, from),
-            bound_of(alloc, row.shape, to),
-        ) {
-            (Ok(from), Ok(to)) => {
-                if !agrees(trees, pair, &from, &to) {
-                    return false;
-                }
-            }
-            _ => return false,
+        if !agrees_between(alloc, row.shape, trees, pair, from, to) {
+            return false;
         }
     }
     true
 }
 
-// Whether the calls that have no bounds answer what the plain map has.
-fn sums_agree(trees: &mut Trees<MemLog>, pair: &Pair) -> bool {
+/// Whether the calls that have no bounds answer what the plain map has.
+pub(super) fn sums_agree(trees: &mut Trees<MemLog>, pair: &Pair) -> bool {
     let (all, plain) = (Bound::Unbounded, &pair.plain);
     is_end(&trees.first(pair.tree), plain, (&all, &all), false)
         && is_end(&trees.last(pair.tree), plain, (&all, &all), true)
