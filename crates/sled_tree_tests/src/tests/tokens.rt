@@ -30,23 +30,50 @@ enum Told {
 fn told_by<T>(answer: &Result<T, TreeError>) -> Told {
     match answer {
         Ok(_) => Told::Answer,
-        Err(TreeError::Cache(Error::Corruption(None))) => Told::Nothing,
-        Err(_) => Told::Failed,
+        Err(error) => refused(error),
     }
 }
 
-fn read_told(trees: &mut Trees<MemLog>, tree: Tree, call: u64, key: &[u8]) -> Told {
-    let bound = Bound::Unbounded;
+fn refused(error: &TreeError) -> Told {
+    match error {
+        TreeError::Cache(error) => told_of(error),
+        _ => Told::Failed,
+    }
+}
+
+fn told_of(error: &Error) -> Told {
+    if *error == Error::Corruption(None) {
+        Told::Nothing
+    } else {
+        Told::Failed
+    }
+}
+
+fn key_told(trees: &mut Trees<MemLog>, tree: Tree, call: u64, key: &[u8]) -> Told {
     match call {
         0 => told_by(&trees.get(tree, key)),
         1 => told_by(&trees.contains_key(tree, key)),
         2 => told_by(&trees.first(tree)),
-        3 => told_by(&trees.last(tree)),
+        _ => told_by(&trees.last(tree)),
+    }
+}
+
+fn sum_told(trees: &mut Trees<MemLog>, tree: Tree, call: u64) -> Told {
+    let bound = Bound::Unbounded;
+    match call {
         4 => told_by(&trees.next_above(tree, &bound)),
         5 => told_by(&trees.next_below(tree, &bound)),
         6 => told_by(&trees.range(tree, &bound, &bound)),
         7 => told_by(&trees.len(tree)),
         _ => told_by(&trees.is_empty(tree)),
+    }
+}
+
+fn read_told(trees: &mut Trees<MemLog>, tree: Tree, call: u64, key: &[u8]) -> Told {
+    if call < 4 {
+        key_told(trees, tree, call, key)
+    } else {
+        sum_told(trees, tree, call)
     }
 }
 
@@ -77,13 +104,19 @@ fn is_of_none(trees: &mut Trees<MemLog>, tree: Tree) -> bool {
     true
 }
 
-fn fills(alloc: Global, trees: &mut Trees<MemLog>, pair: &mut Pair, keys: (u64, u64)) -> bool {
-    for number in keys.0..keys.1 {
+fn fills(alloc: Global, trees: &mut Trees<MemLog>, pair: &mut Pair, from: u64, to: u64) -> bool {
+    for number in from..to {
         if !inserts(alloc, trees, pair, SHAPE, number, number) {
             return false;
         }
     }
     true
+}
+
+// A new map of so many pairs.
+fn filled(alloc: Global, trees: &mut Trees<MemLog>, name: u8, count: u64) -> Option<Pair> {
+    let mut pair = new_pair(alloc, trees, name)?;
+    fills(alloc, trees, &mut pair, 0, count).then_some(pair)
 }
 
 fn new_maps(alloc: Global) -> Option<Trees<MemLog>> {
@@ -95,77 +128,86 @@ fn new_maps(alloc: Global) -> Option<Trees<MemLog>> {
     )
 }
 
-// The token of a map of so many pairs, in another cache, beside a map.
-fn other_token(alloc: Global, count: u64) -> Option<Tree> {
-    let mut trees = new_maps(alloc)?;
-    let mut first = new_pair(alloc, &mut trees, 0)?;
-    if !fills(alloc, &mut trees, &mut first, (0, 40)) {
-        return None;
-    }
-    let mut pair = new_pair(alloc, &mut trees, 1)?;
-    fills(alloc, &mut trees, &mut pair, (0, count)).then_some(pair.tree)
+// A map of so many pairs, and the token of another one beside it.
+#[derive(Drop)]
+struct Beside {
+    trees: Trees<MemLog>,
+    pair: Pair,
+    token: Tree,
 }
 
-// Whether no call by the token of another cache finds a map, or changes one.
-fn refuses_others(alloc: Global, count: u64) -> Option<bool> {
-    let tree = other_token(alloc, count)?;
+fn maps_beside(alloc: Global, first: u64, second: u64) -> Option<Beside> {
     let mut trees = new_maps(alloc)?;
-    let mut pair = new_pair(alloc, &mut trees, 0)?;
-    let is_so = fills(alloc, &mut trees, &mut pair, (0, 9)) && is_of_none(&mut trees, tree);
-    Some(is_so && gets_all(alloc, &mut trees, &pair, SHAPE, 9))
+    let pair = filled(alloc, &mut trees, 0, first)?;
+    let token = filled(alloc, &mut trees, 1, second)?.tree;
+    Some(Beside { trees, pair, token })
+}
+
+fn drops(trees: &mut Trees<MemLog>) -> bool {
+    trees.drop_tree(b"m\x01") == Ok(true)
+}
+
+// Whether no call by the token of another cache, which has no such page here, finds a map or changes one.
+fn refuses_others(alloc: Global, count: u64) -> bool {
+    match (maps_beside(alloc, 40, count), maps_beside(alloc, 0, 0)) {
+        (Some(other), Some(mut here)) => {
+            drops(&mut here.trees) && is_of_none(&mut here.trees, other.token)
+        }
+        _ => false,
+    }
 }
 
 // Whether no call by the token of a dropped map finds a map, or changes one, while its pages are free.
-fn refuses_dropped(alloc: Global, count: u64) -> Option<bool> {
-    let mut trees = new_maps(alloc)?;
-    let mut pair = new_pair(alloc, &mut trees, 0)?;
-    let mut dropped = new_pair(alloc, &mut trees, 1)?;
-    let is_made = fills(alloc, &mut trees, &mut pair, (0, 40))
-        && fills(alloc, &mut trees, &mut dropped, (0, count))
-        && trees.drop_tree(b"m\x01") == Ok(true);
-    let is_so = is_made && is_of_none(&mut trees, dropped.tree);
-    Some(is_so && gets_all(alloc, &mut trees, &pair, SHAPE, 40))
+fn refuses_dropped(alloc: Global, count: u64) -> bool {
+    match maps_beside(alloc, 40, count) {
+        Some(mut maps) => {
+            drops(&mut maps.trees)
+                && is_of_none(&mut maps.trees, maps.token)
+                && gets_all(alloc, &mut maps.trees, &maps.pair, SHAPE, 40)
+        }
+        None => false,
+    }
 }
 
 #[test]
 fn a_token_of_no_map_is_refused(rt: HostRuntime) {
     for count in [0, 3, 40] {
-        assert_eq!(rt; refuses_others(rt.alloc(), count), Some(true), "{count}");
-        assert_eq!(rt; refuses_dropped(rt.alloc(), count), Some(true), "{count}");
+        assert!(rt; refuses_others(rt.alloc(), count), "{count}");
+        assert!(rt; refuses_dropped(rt.alloc(), count), "{count}");
     }
 }
 
-// Whether no call that reads changes a map whose pages those of a dropped one are now.
-fn reads_change_nothing(alloc: Global, count: u64) -> Option<bool> {
-    let mut trees = new_maps(alloc)?;
-    let mut pair = new_pair(alloc, &mut trees, 0)?;
-    let mut dropped = new_pair(alloc, &mut trees, 1)?;
-    let mut is_so = fills(alloc, &mut trees, &mut pair, (0, 9))
-        && fills(alloc, &mut trees, &mut dropped, (0, count))
-        && trees.drop_tree(b"m\x01") == Ok(true);
-    for number in 9..count.saturating_add(20) {
-        is_so = is_so
-            && fills(
-                alloc,
-                &mut trees,
-                &mut pair,
-                (number, number.saturating_add(1)),
-            );
-        for call in 0..READS {
-            let _ = call_told(&mut trees, dropped.tree, call, b"key");
-        }
+fn reads_all(trees: &mut Trees<MemLog>, token: Tree) {
+    for call in 0..READS {
+        let _ = call_told(trees, token, call, b"key");
     }
-    Some(is_so && gets_all(alloc, &mut trees, &pair, SHAPE, count.saturating_add(20)))
+}
+
+// Whether no call that reads changes a map that takes the pages of a dropped one.
+fn grows(alloc: Global, trees: &mut Trees<MemLog>, pair: &mut Pair, token: Tree, end: u64) -> bool {
+    for number in 9..end {
+        if !fills(alloc, trees, pair, number, number.saturating_add(1)) {
+            return false;
+        }
+        reads_all(trees, token);
+    }
+    gets_all(alloc, trees, pair, SHAPE, end)
+}
+
+fn grows_beside(alloc: Global, count: u64) -> bool {
+    match maps_beside(alloc, 9, count) {
+        Some(mut maps) => {
+            let end = count.saturating_add(20);
+            drops(&mut maps.trees) && grows(alloc, &mut maps.trees, &mut maps.pair, maps.token, end)
+        }
+        None => false,
+    }
 }
 
 #[test]
 fn a_reading_call_by_an_old_token_changes_no_map(rt: HostRuntime) {
     for count in [0, 1, 5, 40] {
-        assert_eq!(rt;
-            reads_change_nothing(rt.alloc(), count),
-            Some(true),
-            "{count}"
-        );
+        assert!(rt; grows_beside(rt.alloc(), count), "{count}");
     }
 }
 
