@@ -26,7 +26,7 @@ pub fn room_for<L: Log>(
     'searches: for _ in 0..u64::MAX {
         match seek(cache, root, key, limits, reports)? {
             Met::Leaf(place) => return Ok(place),
-            Met::Full(above, page) => make_room(alloc, cache, above, page)?,
+            Met::Full(above, page) => make_room(alloc, cache, above, page, key)?,
             Met::Unled(above, page) => {
                 lead_right(cache, above, page)?;
                 reports = false; // once is enough: where nothing was led, the search goes right
@@ -36,18 +36,19 @@ pub fn room_for<L: Log>(
     Err(Error::Corruption(None))
 }
 
-// Splits a page, which the other one led to, or which is the root.
+// Splits a page, which the other one led to, or which is the root, to make room for a key.
 fn make_room<L: Log>(
     alloc: Global,
     cache: &mut PageCache<L>,
     above: PageId,
     page: PageId,
+    key: &[u8],
 ) -> Result<(), Error>
     ensures { Performs L.Log (Keeps (IsMet above page)) cache.old cache.new }
 {
     if above == page {
-        grow(alloc, cache, page)
+        grow(alloc, cache, page, key)
     } else {
-        split_child(cache, above, page)
+        split_child(cache, above, page, key)
     }
 }

@@ -4,7 +4,7 @@
 //! whole: from then on each key is led to the part that has it. At last the node above leads to the new page at once, which no answer
 //! depends on. So a crash between two of these leaves the same map, and so does an error.
 
-ghost use Rattle.std.specs.Prelude.{◌≡◌, ◌≢◌, [], ◌∷◌, Some, IfOk, IfSome};
+ghost use Rattle.std.specs.Prelude.{◌≡◌, ◌≢◌, ◌<◌, ◌≤◌, [], ◌∷◌, length, Some, IfOk, IfSome};
 ghost use Rattle.sled_node.specs.Children.{index_of};
 ghost use Rattle.sled_node.specs.Node.{Child};
 ghost use Rattle.sled_pagecache.specs.State.{pid_of};
@@ -29,26 +29,32 @@ struct Parts {
     right: Node,
 }
 
-/// Splits a child in two, and leads the node above to both.
+/// Splits a child in two, to make room for a key, and leads the node above to both.
 pub fn split_child<L: Log>(
     cache: &mut PageCache<L>,
     above: PageId,
     child: PageId,
+    key: &[u8],
 ) -> Result<(), Error>
     ensures { Performs L.Log (Keeps (IsMet above child)) cache.old cache.new }
 {
-    let Parts { token, left, right } = parts_at(cache, child)?;
+    let Parts { token, left, right } = parts_at(cache, child, key)?;
     let at = right.lo().clone()?;
     let (sibling, _) = cache.allocate(right)?;
     put_left(cache, child, token, left, sibling)?;
     lead(cache, above, child, &at, sibling)
 }
 
-/// Splits the root, which stays where it is: its parts are put on new pages, and it leads to these.
-pub fn grow<L: Log>(alloc: Global, cache: &mut PageCache<L>, root: PageId) -> Result<(), Error>
+/// Splits the root, to make room for a key. It stays where it is: its parts are put on new pages, and it leads to these.
+pub fn grow<L: Log>(
+    alloc: Global,
+    cache: &mut PageCache<L>,
+    root: PageId,
+    key: &[u8],
+) -> Result<(), Error>
     ensures { Performs L.Log (Keeps (IsReached root)) cache.old cache.new }
 {
-    let Parts { token, left, right } = parts_at(cache, root)?;
+    let Parts { token, left, right } = parts_at(cache, root, key)?;
     let at = right.lo().clone()?;
     let (second, _) = cache.allocate(right)?;
     let left = with_next(left, second)?;
@@ -97,20 +103,20 @@ fn end_of(node: &Node) -> Result<Option<(IVec, PageId)>, Error>
     }
 }
 
-fn parts_at<L: Log>(cache: &mut PageCache<L>, pid: PageId) -> Result<Parts, Error>
+fn parts_at<L: Log>(cache: &mut PageCache<L>, pid: PageId, key: &[u8]) -> Result<Parts, Error>
     ensures token { IfOk result (λ parts. pid_of parts.token ≡ pid) }
     ensures parts { Performs L.Log (Reads result
         (λ pages parts. HasNodeAt pages pid (λ n. AreParts n parts.left parts.right))) cache.old
         cache.new }
 {
     match cache.get(pid) {
-        Ok(Some(view)) => parts_of(view.node(), view.token(), pid),
+        Ok(Some(view)) => parts_of(view.node(), view.token(), pid, key),
         Ok(None) => Err(Error::Corruption(None)),
         Err(refusal) => Err(Error::from(refusal)),
     }
 }
 
-fn parts_of(node: &Node, token: PageView, pid: PageId) -> Result<Parts, Error>
+fn parts_of(node: &Node, token: PageView, pid: PageId, key: &[u8]) -> Result<Parts, Error>
     ensures token { IfOk result (λ parts. pid_of parts.token ≡ pid) }
     ensures parts { IfOk result (λ parts. AreParts node.now parts.left parts.right) }
 {
@@ -118,10 +124,33 @@ fn parts_of(node: &Node, token: PageView, pid: PageId) -> Result<Parts, Error>
         return Err(Error::Corruption(None));
     }
     let _ = node.data(); // which says that it is well-formed
-    let (left, right) = node.clone()?.split()?;
+    let count = left_count(node, key);
+    let (left, right) = node.clone()?.split_behind(count)?;
     let _ = left.data();
     let _ = right.data();
     Ok(Parts { token, left, right })
+}
+
+// How many pairs stay on the left: half of them and one more. But where the key comes behind all that the tree has at this height, all but the
+// last one stay: keys that rise put no pair on the left any more, which so stays full.
+fn left_count(node: &Node, key: &[u8]) -> usize
+    requires { 3 ≤ length node.now.pairs }
+    ensures some { 1 ≤ result }
+    ensures others { result < length node.now.pairs }
+{
+    if is_behind_all(node, key) {
+        node.len() - 1
+    } else {
+        node.len() / 2 + 1
+    }
+}
+
+// Whether the node has no end, and the key comes behind its last one, which is stored whole then.
+fn is_behind_all(node: &Node, key: &[u8]) -> bool
+    requires { 1 ≤ length node.now.pairs }
+{
+    let (last, _) = node.pair(node.len() - 1);
+    node.hi().is_empty() && last < key
 }
 
 // Puts the left part in place of the whole, leading on to the right one.
@@ -166,11 +195,11 @@ fn lead<L: Log>(
     }
 }
 
-// A node that is to be put on the page of a token.
+/// A node that is to be put on the page of a token.
 #[derive(Drop)]
-struct Changed {
-    token: PageView,
-    node: Node,
+pub struct Changed {
+    pub token: PageView,
+    pub node: Node,
 }
 
 fn led_at<L: Log>(
@@ -235,8 +264,8 @@ fn with_next(node: Node, page: PageId) -> Result<Node, Error>
     Ok(node)
 }
 
-// Puts a node in place of what the page holds.
-fn put<L: Log>(
+/// Puts a node in place of what the page holds.
+pub fn put<L: Log>(
     cache: &mut PageCache<L>,
     pid: PageId,
     token: PageView,
