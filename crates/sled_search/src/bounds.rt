@@ -108,8 +108,8 @@ fn count_below(node: &Node, key: &[u8]) -> usize
     count
 }
 
-// Whether the pair at a place has this whole key.
-fn is_key_at(node: &Node, at: usize, key: &[u8]) -> bool
+/// Whether the pair at a place has this whole key.
+pub fn is_key_at(node: &Node, at: usize, key: &[u8]) -> bool
     requires { at < length node.now.pairs }
     ensures { (found : Bytes) (item : WholeItem) → slice_get node.now.pairs at ≡ Some (found, item)
         → IsTrue result ↔ (found ≡ key.now) }

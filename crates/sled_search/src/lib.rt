@@ -21,6 +21,6 @@ pub mod maps;
 pub mod ordered;
 pub mod turns;
 
-pub use bounds::route_before;
+pub use bounds::{is_key_at, route_before};
 pub use leaf::value_in;
 pub use turns::{Turn, route};

@@ -13,6 +13,7 @@ pub mod Idle
 pub mod Keeping
 pub mod Lists
 pub mod Marking
+pub mod MergingPages
 pub mod Naming
 pub mod Numbering
 pub mod Opening

@@ -4,6 +4,7 @@ pub mod Dropping
 pub mod Errors
 pub mod Limits
 pub mod Maps
+pub mod Merging
 pub mod Named
 pub mod Names
 pub mod Openings

@@ -8,6 +8,7 @@
 //! - `place`: where a key stands, or would, in its leaf
 //! - `room`: the leaf of a key, which has room for a pair
 //! - `splits`: the steps in which room is made
+//! - `merging`: what has lost its pairs goes into a neighbour
 //! - `swap`: setting a value, or taking one out, where another one stands
 //! - `neighbours`: the nearest pairs on either side of a bound, those between two, and how many there are
 //! - `freeing`: the pages of a map that is dropped
@@ -20,6 +21,7 @@ pub mod calls;
 pub mod error;
 pub mod examples;
 mod freeing;
+mod merging;
 mod neighbours;
 pub mod openings;
 mod place;

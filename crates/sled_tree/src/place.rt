@@ -120,12 +120,7 @@ fn looked(node: &Node, token: PageView, key: &[u8], limits: Limits) -> Result<Lo
 
 // Whether a node has more pairs than it may.
 fn is_full(node: &Node, limits: Limits) -> bool {
-    let most = if node.is_index() {
-        limits.children()
-    } else {
-        limits.pairs()
-    };
-    node.len() > most
+    limits.are_passed(node.is_index(), node.len())
 }
 
 // Where the key stands in its leaf.

@@ -5,6 +5,7 @@ ghost use Rattle.std.specs.Option.{option_map};
 ghost use Rattle.sled_tree.specs.Maps.{ChangesMap, SwapsKey};
 ghost use Rattle.sled_tree.specs.Performs.{Performs};
 
+use crate::merging::merge_few;
 use crate::place::{delete, place_for, set};
 use crate::room::room_for;
 use crate::trees::Limits;
@@ -38,6 +39,7 @@ pub fn take_where<L: Log>(
     root: PageId,
     key: &[u8],
     old: Option<&[u8]>,
+    limits: Limits,
 ) -> Result<Result<(), Option<IVec>>, Error>
     ensures { Performs L.Log (ChangesMap root (SwapsKey root key.now
         (option_map (λ old. old.now) old.entry) None result)) cache.old cache.new }
@@ -49,7 +51,9 @@ pub fn take_where<L: Log>(
     if place.value.is_none() {
         return Ok(Ok(()));
     }
+    let leaf = place.token.pid();
     delete(cache, place)?;
+    merge_few(cache, root, leaf, key, limits);
     Ok(Ok(()))
 }
 

@@ -64,6 +64,12 @@ impl Limits {
         }
     }
 
+    // Whether so many pairs are more than a leaf may have, or an index.
+    pub(crate) fn are_passed(&self, is_index: bool, count: usize) -> bool {
+        let most = if is_index { self.children } else { self.pairs };
+        count > most
+    }
+
     /// How many pairs a leaf may have.
     pub fn pairs(&self) -> usize
         ensures { result ≡ self.now.pairs }

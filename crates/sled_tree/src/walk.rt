@@ -1,10 +1,11 @@
 //! From a tree's root to the leaf of a key, and what that has there.
 
-ghost use Rattle.std.specs.Prelude.{◌≡◌, false, IfOk};
+ghost use Rattle.std.specs.Prelude.{◌≡◌, true, false, IfOk};
+ghost use Rattle.sled_search.specs.Routes.{Routes};
 ghost use Rattle.sled_search.specs.Search.{ComesToValue, HasNodeAt, HasAt};
 ghost use Rattle.sled_tree.specs.Changed.{Reads};
 ghost use Rattle.sled_tree.specs.Performs.{Performs};
-ghost use Rattle.sled_tree.specs.Walks.{Shows};
+ghost use Rattle.sled_tree.specs.Walks.{Leads, Shows};
 
 use sled_node::Node;
 use sled_pagecache::{Error, IVec, Log, PageCache, PageId, sled_node};
@@ -77,4 +78,39 @@ fn value_here(alloc: Global, node: &Node, key: &[u8]) -> Result<Option<IVec>, Er
         Some((_, value)) => Ok(Some(IVec::from_slice(alloc, value)?)),
         None => Ok(None),
     }
+}
+
+/// Where the page leads the key.
+pub fn turn_at<L: Log>(cache: &mut PageCache<L>, pid: PageId, key: &[u8]) -> Result<Turn, Error>
+    ensures { Performs L.Log (Reads result (λ pages turn. HasNodeAt pages pid (Routes key.now turn)))
+        cache.old cache.new }
+{
+    match cache.get(pid) {
+        Ok(Some(view)) => Ok(route(view.node(), key)),
+        Ok(None) => Err(Error::Corruption(None)),
+        Err(refusal) => Err(Error::from(refusal)),
+    }
+}
+
+/// Whether the search for a key from the root comes to the page.
+pub fn is_on_way<L: Log>(
+    cache: &mut PageCache<L>,
+    root: PageId,
+    key: &[u8],
+    page: PageId,
+) -> Result<bool, Error>
+    ensures { Performs L.Log (Reads result
+        (λ pages is. is ≡ true → Leads pages key.now root page)) cache.old cache.new }
+{
+    let mut at = root;
+    'turns: for _ in 0..u64::MAX {
+        if at == page {
+            return Ok(true);
+        }
+        match turn_at(cache, at, key)? {
+            Turn::Down(next) | Turn::Right(next) => at = next,
+            _ => return Ok(false),
+        }
+    }
+    Ok(false)
 }

@@ -1,14 +1,15 @@
 //! From a tree's root to the leaf of a key, or of the keys right before a bound.
 
 ghost use Rattle.sled_search.specs.Ordered.{start_of};
-ghost use Rattle.sled_search.specs.Routes.{Routes, RoutesBefore};
+ghost use Rattle.sled_search.specs.Routes.{RoutesBefore};
 ghost use Rattle.sled_search.specs.Search.{HasNodeAt, ComesToLeafOf};
 ghost use Rattle.sled_tree.specs.Changed.{Reads};
 ghost use Rattle.sled_tree.specs.OrderedLeaves.{ComesBefore};
 ghost use Rattle.sled_tree.specs.Performs.{Performs};
 
+use crate::walk::turn_at;
 use sled_pagecache::{Error, IVec, Log, PageCache, PageId};
-use sled_search::{Turn, route, route_before};
+use sled_search::{Turn, route_before};
 use std::ops::Bound;
 
 /// The leaf in which the first key behind the bound is, or would be.
@@ -41,18 +42,6 @@ pub fn leaf_of<L: Log>(cache: &mut PageCache<L>, root: PageId, key: &[u8]) -> Re
         }
     }
     Err(Error::Corruption(None))
-}
-
-// Where the page leads the key.
-fn turn_at<L: Log>(cache: &mut PageCache<L>, pid: PageId, key: &[u8]) -> Result<Turn, Error>
-    ensures { Performs L.Log (Reads result (λ pages turn. HasNodeAt pages pid (Routes key.now turn)))
-        cache.old cache.new }
-{
-    match cache.get(pid) {
-        Ok(Some(view)) => Ok(route(view.node(), key)),
-        Ok(None) => Err(Error::Corruption(None)),
-        Err(refusal) => Err(Error::from(refusal)),
-    }
 }
 
 /// The leaf of the keys right before the bound.

@@ -12,6 +12,7 @@ ghost use Rattle.sled_tree.specs.declared.error.TreeError.TheVariants.{KeyTooLon
 
 use super::{Tree, Trees};
 use crate::error::TreeError;
+use crate::merging::merge_few;
 use crate::place::{delete, place_for, set};
 use crate::room::room_for;
 use crate::swap::{set_where, take_where};
@@ -63,6 +64,10 @@ impl<L: Log> Trees<L> {
 
     /// Takes a key out, and answers the value that it had.
     ///
+    /// A leaf that has fewer than 4 pairs left goes into a neighbour, if that has room, and its page is freed; so does an index with fewer
+    /// than 64 children on the way there. That reads the neighbours, and answers no error: what is refused is left for a later removal, and
+    /// a write error is kept by the cache, and the next call answers it.
+    ///
     /// `KeyTooLong` comes before anything is read.
     pub fn remove(&mut self, tree: Tree, key: &[u8]) -> Result<Option<IVec>, TreeError>
         ensures maps { Performs L.Log
@@ -77,7 +82,10 @@ impl<L: Log> Trees<L> {
         if place.value.is_none() {
             return Ok(None);
         }
-        Ok(delete(&mut self.cache, place)?)
+        let leaf = place.token.pid();
+        let before = delete(&mut self.cache, place)?;
+        merge_few(&mut self.cache, tree.root, leaf, key, self.limits);
+        Ok(before)
     }
 
     /// Sets the value of a key, or takes it out, where it has the old value, or none. Where it has another one, or none, that comes back,
@@ -102,7 +110,7 @@ impl<L: Log> Trees<L> {
             return Err(TreeError::KeyTooLong);
         }
         let Some(value) = new else {
-            return Ok(take_where(&mut self.cache, tree.root, key, old)?);
+            return Ok(take_where(&mut self.cache, tree.root, key, old, self.limits)?);
         };
         if value.len() > MAX_BYTES {
             return Err(TreeError::ValueTooLong);

@@ -5,6 +5,7 @@ use Rattle.sled_base.specs.declared.types.Error.{Error}
 use Rattle.sled_tree.specs.Maps.{ChangesMap, TakesKey}
 use Rattle.sled_tree.specs.Performs.{Performs}
 use Rattle.sled_tree.proofs.Changing.{absent, deleted, none-of, some-of}
+use Rattle.sled_tree.proofs.MergingPages.{takes-then}
 use Rattle.sled_tree.proofs.Swapping.{swap-differs, swap-none, swap-take, swap-take-failed}
 use Rattle.sled_tree.proofs.swap.take_where.Goals as goal
 
@@ -35,10 +36,15 @@ returns-in_err-delete g c =
 pub returns : goal.returns
 returns g c =
     let place = c.in_ok-place.place in
+    let root = c.args.root in
+    let key = c.args.key.now in
     let old = c.args.cache.now in
-    let new = c.delete.new.cache in
+    let mid = c.delete.new.cache in
+    let new = c.merge_few.new.cache in
     let some = some-of place.value (c.is_none.ensures ∙ ap not c.if-is_none.false) in
     let had : c.in_ok-delete.field-0 ≡ Some some.0 = c.in_ok-delete.ensures.before ∙ some.1 in
-    swap-take g.L.Log Error c.args.root c.args.key.now (option_map (λ old. old.now) c.args.old) old new Error some.0 (sym (c.is_value.ensures.same c.if-not-is_value.false) ∙ some.1)
-    (subst (λ (o : Option Bytes). Performs g.L.Log (ChangesMap c.args.root (TakesKey {E = Error} c.args.root c.args.key.now (Ok o))) old new) had
-    (deleted g.L.Log c.args.root c.args.key.now place old c.place_for.new.cache new {E = Error} some.0 some.1 (Ok c.in_ok-delete.field-0) c.in_ok-delete.ensures.before c.in_ok-place.ensures c.in_ok-delete.ensures.links))
+    let taken : Performs g.L.Log (ChangesMap root (TakesKey {E = Error} root key (Ok (Some some.0)))) old mid =
+    subst (λ (o : Option Bytes). Performs g.L.Log (ChangesMap root (TakesKey {E = Error} root key (Ok o))) old mid) had
+    (deleted g.L.Log root key place old c.place_for.new.cache mid {E = Error} some.0 some.1 (Ok c.in_ok-delete.field-0) c.in_ok-delete.ensures.before c.in_ok-place.ensures c.in_ok-delete.ensures.links) in
+    swap-take g.L.Log Error root key (option_map (λ old. old.now) c.args.old) old new Error some.0 (sym (c.is_value.ensures.same c.if-not-is_value.false) ∙ some.1)
+    (takes-then g.L.Log Error root key some.0 old mid new taken c.merge_few.ensures)

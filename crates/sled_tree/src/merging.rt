@@ -1,0 +1,187 @@
+//! Merging: a leaf or an index that has lost its pairs goes into a neighbour under the same index, and its page is freed.
+//!
+//! First the index above is put without the right one of the two: a search that it led there is led to the left one, and from there to the
+//! right. Then the left one is put with the pairs of both, and no search is at the right one any more. At last its page is freed. So a crash
+//! between two of these leaves the same map, and so does an error.
+
+ghost use Rattle.sled_tree.specs.Maps.{Keeps};
+ghost use Rattle.sled_tree.specs.Merging.{LooksOn};
+ghost use Rattle.sled_tree.specs.Performs.{Performs};
+ghost use Rattle.sled_tree.specs.Walks.{HasRoot};
+
+mod carry;
+mod plan;
+
+use crate::trees::Limits;
+use crate::walk::turn_at;
+use carry::carry_out;
+use plan::{Neighbours, neighbours_at, plan_for};
+use sled_node::Node;
+use sled_pagecache::{Error, Log, PageCache, PageId, sled_node};
+use sled_search::Turn;
+
+/// Merges a leaf that has few pairs left, in which a key was, with a neighbour that has room for these, and so each index on the way to it
+/// that has few children. What is refused is left as it is.
+pub fn merge_few<L: Log>(
+    cache: &mut PageCache<L>,
+    root: PageId,
+    leaf: PageId,
+    key: &[u8],
+    limits: Limits,
+)
+    ensures { Performs L.Log (Keeps (HasRoot root)) cache.old cache.new }
+{
+    let _ = merge_leaf(cache, root, leaf, key, limits); // a write error is kept, and the next call answers it
+}
+
+// Merges what has few pairs, if the leaf does.
+fn merge_leaf<L: Log>(
+    cache: &mut PageCache<L>,
+    root: PageId,
+    leaf: PageId,
+    key: &[u8],
+    limits: Limits,
+) -> Result<(), Error>
+    ensures { Performs L.Log (Keeps (HasRoot root)) cache.old cache.new }
+{
+    if !has_few(cache, leaf)? {
+        return Ok(());
+    }
+    merge_way(cache, root, key, limits)
+}
+
+// Merges what has few pairs on the way to the leaf of the key.
+fn merge_way<L: Log>(
+    cache: &mut PageCache<L>,
+    root: PageId,
+    key: &[u8],
+    limits: Limits,
+) -> Result<(), Error>
+    ensures { Performs L.Log (Keeps (HasRoot root)) cache.old cache.new }
+{
+    let mut at = root;
+    'turns: for _ in 0..u64::MAX {
+        match next_on(cache, root, at, key, limits)? {
+            Some(page) => at = page,
+            None => return Ok(()),
+        }
+    }
+    Err(Error::Corruption(None))
+}
+
+// The page behind this one on the way to the leaf of the key, if it isn't that leaf. A child with few pairs is merged first.
+fn next_on<L: Log>(
+    cache: &mut PageCache<L>,
+    root: PageId,
+    at: PageId,
+    key: &[u8],
+    limits: Limits,
+) -> Result<Option<PageId>, Error>
+    ensures { Performs L.Log (Keeps (HasRoot root)) cache.old cache.new }
+{
+    merge_below(cache, root, at, key, limits)?;
+    match turn_at(cache, at, key)? {
+        Turn::Down(page) | Turn::Right(page) => Ok(Some(page)),
+        _ => Ok(None),
+    }
+}
+
+// Merges the child to which the page leads the key, if that has few pairs.
+fn merge_below<L: Log>(
+    cache: &mut PageCache<L>,
+    root: PageId,
+    above: PageId,
+    key: &[u8],
+    limits: Limits,
+) -> Result<(), Error>
+    ensures { Performs L.Log (Keeps (HasRoot root)) cache.old cache.new }
+{
+    let Turn::Down(child) = turn_at(cache, above, key)? else {
+        return Ok(());
+    };
+    if !has_few(cache, child)? {
+        return Ok(());
+    }
+    merge_child(cache, root, above, key, limits)
+}
+
+// Whether the node of the page has few pairs.
+fn has_few<L: Log>(cache: &mut PageCache<L>, pid: PageId) -> Result<bool, Error>
+    ensures { Performs L.Log (LooksOn result) cache.old cache.new }
+{
+    match cache.get(pid) {
+        Ok(Some(view)) => Ok(view.node().should_merge()),
+        Ok(None) => Err(Error::Corruption(None)),
+        Err(refusal) => Err(Error::from(refusal)),
+    }
+}
+
+// Merges the child of a key with its left neighbour, or else with its right one, if the index above leads to one and they are few enough.
+fn merge_child<L: Log>(
+    cache: &mut PageCache<L>,
+    root: PageId,
+    above: PageId,
+    key: &[u8],
+    limits: Limits,
+) -> Result<(), Error>
+    ensures { Performs L.Log (Keeps (HasRoot root)) cache.old cache.new }
+{
+    let Sides { before, behind } = sides_at(cache, above, key)?;
+    if !merge(cache, root, above, before, limits)? {
+        merge(cache, root, above, behind, limits)?;
+    }
+    Ok(())
+}
+
+// A child with its left neighbour, and with its right one, if it has them.
+#[derive(Clone, Copy)]
+struct Sides {
+    before: Option<Neighbours>,
+    behind: Option<Neighbours>,
+}
+
+fn sides_at<L: Log>(cache: &mut PageCache<L>, above: PageId, key: &[u8]) -> Result<Sides, Error>
+    ensures { Performs L.Log (LooksOn result) cache.old cache.new }
+{
+    match cache.get(above) {
+        Ok(Some(view)) => Ok(sides_of(view.node(), key)),
+        Ok(None) => Err(Error::Corruption(None)),
+        Err(refusal) => Err(Error::from(refusal)),
+    }
+}
+
+fn sides_of(index: &Node, key: &[u8]) -> Sides {
+    if !index.has_child_for(key) {
+        return Sides {
+            before: None,
+            behind: None,
+        };
+    }
+    let (at, _) = index.index_next_node(key);
+    Sides {
+        before: neighbours_at(index, at),
+        behind: neighbours_at(index, at.saturating_add(1)),
+    }
+}
+
+// Merges two neighbours, and answers whether they were merged.
+fn merge<L: Log>(
+    cache: &mut PageCache<L>,
+    root: PageId,
+    above: PageId,
+    neighbours: Option<Neighbours>,
+    limits: Limits,
+) -> Result<bool, Error>
+    ensures { Performs L.Log (Keeps (HasRoot root)) cache.old cache.new }
+{
+    let Some(neighbours) = neighbours else {
+        return Ok(false);
+    };
+    match plan_for(cache, root, above, neighbours, limits)? {
+        Some(plan) => {
+            carry_out(cache, root, above, neighbours, plan)?;
+            Ok(true)
+        }
+        None => Ok(false),
+    }
+}
