@@ -7,6 +7,7 @@ mod faults;
 mod handles;
 mod listed;
 mod lists;
+mod merged;
 mod names;
 mod ordered;
 mod over_disk;

@@ -87,7 +87,12 @@ fn asks(alloc: Global, trees: &mut Disked, call: &Call, plain: &Plain, way: &Way
     outcome
 }
 
-// Whether a call answers as it should. The write fault of a move that it added may be passed over.
+// Whether a write fault may be passed over: that of a move that the call added, or of what is merged behind a removal.
+fn may_be_made(call: &Call, way: &Way) -> bool {
+    way.clean_every > 0 || matches!(call, Call::Removes(_, _))
+}
+
+// Whether a call answers as it should.
 fn makes(alloc: Global, trees: &mut Disked, call: &Call, reach: &mut Reach, way: &Way) -> bool {
     if is_unwritten(trees) {
         return answer(alloc, trees, call) == Outcome::Faulty;
@@ -96,7 +101,7 @@ fn makes(alloc: Global, trees: &mut Disked, call: &Call, reach: &mut Reach, way:
     let is_wanted = outcome == wanted(&reach.plain, call);
     make(&mut reach.plain, call);
     reach.made = reach.made.saturating_add(1);
-    if is_unwritten(trees) && !(is_wanted && way.clean_every > 0) {
+    if is_unwritten(trees) && !(is_wanted && may_be_made(call, way)) {
         return outcome == Outcome::Faulty;
     }
     is_wanted

@@ -1,7 +1,7 @@
 // Steps on two maps on a disk, over openings that end by crashes, and whether each leaves what it may.
 
 use super::calls::{answer, answer_of, drops, is_plain};
-use super::listed::{NEW, Outcome, Plain};
+use super::listed::{Call, NEW, Outcome, Plain};
 use super::steps::{Step, behind_steps, make_step, mark, may_be_left, wanted_of};
 use super::*;
 use sled_pagecache::crashes::{reopen_after_a_crash, writes_and_syncs};
@@ -153,9 +153,10 @@ fn goes_on(reach: &mut Reach, step: &Step, is_flushed: bool) {
     }
 }
 
-// Whether a step may be done though a write has failed in it: that of a move that it added, or of a page that is freed behind its map's name.
+// Whether a step may be done though a write has failed in it: that of a move that it added, of what is merged behind a removal, or of a page
+// that is freed behind its map's name.
 fn may_be_done(step: &Step, way: &Way) -> bool {
-    way.clean_every > 0 || matches!(step, Step::Drops(_))
+    way.clean_every > 0 || matches!(step, Step::Drops(_) | Step::Calls(Call::Removes(_, _)))
 }
 
 // Whether a step answers as it should.
