@@ -1,0 +1,7 @@
+pub mod Settings
+pub mod Words
+pub mod Cut
+pub mod Lines
+pub mod Parts
+pub mod Output
+pub mod Errors
