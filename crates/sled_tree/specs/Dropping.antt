@@ -1,6 +1,7 @@
 -- The names of the maps, and dropping a map by its name.
 use Rattle.std.specs.Prelude.{◌≡◌, ◌≢◌, ◌⊎◌, ℕ, Bool, true, false, List, [], map, Option, Some, None, Result, Ok, Err, slice_get, slice_set, ⊤}
 use Rattle.std.specs.List.{All}
+use Rattle.std.specs.Option.{option_map}
 use Rattle.std.specs.Global.{Vec}
 use Rattle.sled_base.specs.Order.{Bytes}
 use Rattle.sled_log.specs.Contents.{Content, Free, Roots, Update}
@@ -13,11 +14,12 @@ use Rattle.sled_pagecache.specs.Step.{Swapped}
 use Rattle.sled_search.specs.Maps.{HasTree, IsOff, Reaches, without_map}
 use Rattle.sled_search.specs.Search.{HasNodeAt, LeadsTo}
 use Rattle.sled_tree.specs.Changed.{Ends, EndsSwap}
-use Rattle.sled_tree.specs.Maps.{Follows, Stays, StaysUnlessFaulty, Turns}
+use Rattle.sled_tree.specs.Maps.{root_of, Follows, Stays, StaysUnlessFaulty, Turns}
 use Rattle.sled_tree.specs.Named.{Named, AreNamed}
 use Rattle.sled_tree.specs.declared.freeing.Stop.{Stop}
 use Rattle.sled_tree.specs.declared.freeing.Way.{Way}
 use Rattle.sled_tree.specs.declared.freeing.Way.TheVariants.{On, End}
+use Rattle.sled_tree.specs.declared.trees.Tree.{Tree}
 
 -- ---- names
 
@@ -31,6 +33,10 @@ AreNamesOf pages answer = (w : Named) → AreNamed pages w → answer.items ≡ 
 -- and the name has that root
 abbrev pub IsRootOf : Bytes → List Content → Option ℕ → Type 0
 IsRootOf name pages root = (w : Named) → AreNamed pages w → root ≡ meta.root_of name w.names
+
+-- and the map is that of the name: the one with its root, or none where it has none
+abbrev pub IsMapOf : Bytes → List Content → Option Tree → Type 0
+IsMapOf name pages tree = IsRootOf name pages (option_map root_of tree)
 
 -- ---- dropping
 

@@ -4,7 +4,7 @@ ghost use Rattle.std.specs.Prelude.{◌≡◌, IfErr, IfOk};
 ghost use Rattle.sled_log.specs.Contents.{Content};
 ghost use Rattle.sled_node.specs.Meta as meta;
 ghost use Rattle.sled_tree.specs.Changed.{Reads};
-ghost use Rattle.sled_tree.specs.Dropping.{AreNamesOf, DropsMap, IsRootOf, Unnames, names_of};
+ghost use Rattle.sled_tree.specs.Dropping.{AreNamesOf, DropsMap, IsMapOf, IsRootOf, Unnames, names_of};
 ghost use Rattle.sled_tree.specs.Errors.{IsOfCache};
 ghost use Rattle.sled_tree.specs.Maps.{root_of};
 ghost use Rattle.sled_tree.specs.Names.{OpensMap};
@@ -28,6 +28,19 @@ impl<L: Log> Trees<L> {
         let name = IVec::from_slice(self.alloc, name)?;
         let root = open_tree(&mut self.cache, name)?;
         Ok(Tree { root })
+    }
+
+    /// The map of this name, or none where there is none: nothing is made.
+    ///
+    /// Nothing is read from the log, and nothing allocated. The error is a write error that is kept.
+    pub fn get_tree(&self, name: &[u8]) -> Result<Option<Tree>, TreeError>
+        ensures map { Performs L.Log (Reads result (IsMapOf name.now)) self.now self.now }
+        ensures errors { IfErr result IsOfCache }
+    {
+        match root_at(&self.cache, name)? {
+            Some(root) => Ok(Some(Tree { root })),
+            None => Ok(None),
+        }
     }
 
     /// The names of the maps, in their order.

@@ -1,0 +1,97 @@
+//! The script over maps that are opened: in memory, or in a file.
+
+use super::Fault;
+use crate::script::{RunError, run};
+use sled_tree::sled_pagecache::LogError;
+use sled_tree::{Config, Disk, DiskLog, Error, FileDisk, Log, MemLog, PageCache, Trees};
+use std::alloc::{AllocGlobal, Global};
+use std::fs::{File, Files};
+use std::io::{BufReader, Read, Write};
+
+/// The settings of every cache that the program opens. The capacity is no more than a bound: memory is taken as pages are used.
+const CONFIG: Config = Config {
+    cache_capacity: 67_108_864,
+    idgen_persist_interval: 10,
+    segment_size: 4096,
+};
+
+/// Payloads above this many bytes are blobs in memory.
+const BLOB_LIMIT: usize = 512;
+
+/// A page is moved for so many messages.
+const CLEAN_EVERY: u64 = 16;
+
+/// Runs the script over maps in memory.
+pub fn serve_memory<R: Read, W: Write>(
+    alloc: Global,
+    reader: &mut R,
+    writer: &mut W,
+) -> Result<(), Fault> {
+    serve_log(
+        alloc,
+        MemLog::new(alloc, BLOB_LIMIT, CLEAN_EVERY),
+        reader,
+        writer,
+    )
+}
+
+/// Runs the script over the maps in the file of a path, which is made where there is none.
+pub fn serve_file<H: Files<File = File> + AllocGlobal, R: Read, W: Write>(
+    rt: &H,
+    path: &str,
+    reader: &mut R,
+    writer: &mut W,
+) -> Result<(), Fault> {
+    match FileDisk::open(rt, path) {
+        Ok(disk) => serve_disk(rt.alloc(), disk, reader, writer),
+        Err(error) => Err(Fault::Opening(error.into())),
+    }
+}
+
+/// Runs the script over the maps in the log that a disk holds. A disk that has no bytes is given a log of no messages.
+pub fn serve_disk<D: Disk, R: Read, W: Write>(
+    alloc: Global,
+    mut disk: D,
+    reader: &mut R,
+    writer: &mut W,
+) -> Result<(), Fault> {
+    if let Err(error) = make_log(&mut disk) {
+        return Err(Fault::Opening(error.into()));
+    }
+    match DiskLog::open(alloc, disk, CONFIG.segment_size as u64, CLEAN_EVERY) {
+        Ok(log) => serve_log(alloc, log, reader, writer),
+        Err((error, _)) => Err(Fault::Opening(error.into())),
+    }
+}
+
+// Gives a disk that has no bytes a log of no messages.
+fn make_log<D: Disk>(disk: &mut D) -> Result<(), LogError> {
+    if disk.len()? > 0 {
+        return Ok(());
+    }
+    DiskLog::create(disk)
+}
+
+fn serve_log<L: Log, R: Read, W: Write>(
+    alloc: Global,
+    log: L,
+    reader: &mut R,
+    writer: &mut W,
+) -> Result<(), Fault> {
+    match PageCache::start(alloc, CONFIG, log) {
+        Ok(cache) => serve(alloc, Trees::new(alloc, cache), reader, writer),
+        Err((error, _)) => Err(Fault::Opening(error)),
+    }
+}
+
+fn serve<L: Log, R: Read, W: Write>(
+    alloc: Global,
+    mut trees: Trees<L>,
+    reader: &mut R,
+    writer: &mut W,
+) -> Result<(), Fault> {
+    let Ok(mut input) = BufReader::new(alloc, reader) else {
+        return Err(Fault::Run(RunError::Memory));
+    };
+    run(alloc, &mut trees, &mut input, writer).map_err(Fault::Run)
+}

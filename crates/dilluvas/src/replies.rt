@@ -1,0 +1,129 @@
+//! Replies that are written piece by piece.
+
+ghost use Rattle.std.specs.Prelude.{◌≤◌, ◌+◌, ◌*◌, length};
+ghost use Rattle.sled_lines.specs.Settings.{piece_room};
+
+use crate::words::are_plain;
+use sled_lines::output::{
+    Unwritten, flush_unless, gather_number, gather_text, make_room, write_rest,
+};
+use sled_lines::piece::{Piece, ROOM};
+use sled_lines::replies::{gather_error, gather_labelled};
+use sled_tree::{Error, TreeError, Why};
+use std::io::Write;
+
+/// The replies to lines: what was gathered of them, and the writer that takes it where the gathered text is whole or has no more room.
+#[derive(Drop)]
+pub struct Replies<'a, W: Write> {
+    writer: &'a mut W,
+    piece: Piece,
+}
+
+impl<'a, W: Write> Replies<'a, W> {
+    pub fn new(writer: &'a mut W) -> Replies<'a, W> {
+        Replies {
+            writer,
+            piece: Piece::new(),
+        }
+    }
+
+    /// A short text.
+    pub fn text(&mut self, text: &[u8]) -> Result<(), Unwritten>
+        requires { length text.now ≤ piece_room }
+    {
+        gather_text(self.writer, &mut self.piece, text)
+    }
+
+    /// A number in decimal digits.
+    pub fn number(&mut self, number: u64) -> Result<(), Unwritten> {
+        gather_number(self.writer, &mut self.piece, number)
+    }
+
+    /// A line of a short label and a number.
+    pub fn labelled(&mut self, label: &[u8], number: u64) -> Result<(), Unwritten>
+        requires { length label.now ≤ 40 }
+    {
+        gather_labelled(self.writer, &mut self.piece, label, number)
+    }
+
+    /// A line of a short label and the word that spells these bytes.
+    pub fn value(&mut self, label: &[u8], bytes: &[u8]) -> Result<(), Unwritten>
+        requires { length label.now ≤ 40 }
+    {
+        self.text(label)?;
+        self.word(bytes)?;
+        self.text(b"\n")
+    }
+
+    /// The word that spells these bytes.
+    pub fn word(&mut self, bytes: &[u8]) -> Result<(), Unwritten> {
+        match bytes {
+            b"" => self.text(b"-"),
+            b"-" => self.text(b"\\2d"),
+            _ => self.spell(bytes),
+        }
+    }
+
+    // The bytes as each of them is spelled, as many at once as a piece has room for.
+    fn spell(&mut self, bytes: &[u8]) -> Result<(), Unwritten> {
+        let mut left = bytes;
+        while !left.is_empty() {
+            let (part, rest) = left.split_at(left.len().min(ROOM / 3));
+            make_room(self.writer, &mut self.piece, 3 * part.len())?;
+            put_spelled(&mut self.piece, part);
+            left = rest;
+        }
+        Ok(())
+    }
+
+    /// A line of the error.
+    pub fn error(&mut self, error: &TreeError) -> Result<(), Unwritten> {
+        match error {
+            TreeError::KeyTooLong => self.text(b"error key\n"),
+            TreeError::ValueTooLong => self.text(b"error value\n"),
+            TreeError::NoBatch => self.text(b"error batch\n"),
+            TreeError::Cache(Error::Unsupported(why)) => self.unsupported(*why),
+            TreeError::Cache(error) => gather_error(self.writer, &mut self.piece, error),
+        }
+    }
+
+    fn unsupported(&mut self, why: Why) -> Result<(), Unwritten> {
+        match why {
+            Why::BatchOpen => self.text(b"error batch\n"),
+            Why::NameTooLong => self.text(b"error name\n"),
+            Why::TooManyNames => self.text(b"error names\n"),
+            Why::LogFull => self.text(b"error full\n"),
+            _ => self.labelled(b"error unsupported ", u64::from(why.number())),
+        }
+    }
+
+    /// Writes and flushes what was gathered, unless another line can be read without a wait.
+    pub fn flush_unless(&mut self, is_followed: bool) -> Result<(), Unwritten> {
+        flush_unless(is_followed, self.writer, &mut self.piece)
+    }
+
+    /// Writes and flushes what is left, if something is.
+    pub fn finish(&mut self) -> Result<(), Unwritten> {
+        write_rest(self.writer, &self.piece)
+    }
+}
+
+// Puts the bytes as each of them is spelled into a piece, which has room for them.
+fn put_spelled(piece: &mut Piece, bytes: &[u8])
+    requires { length piece.old + 3 * length bytes.now ≤ piece_room }
+{
+    if are_plain(bytes) {
+        piece.put_text(bytes);
+        return;
+    }
+    for byte in bytes {
+        match *byte {
+            b'\\' => piece.put_text(b"\\\\"),
+            b'!'..=b'~' => piece.push(*byte),
+            _ => {
+                piece.push(b'\\');
+                piece.put_hex(&[*byte]);
+            }
+        }
+    }
+}

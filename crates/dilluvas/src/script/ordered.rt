@@ -1,0 +1,145 @@
+//! Lines about the pairs of a map in the order of their keys.
+
+use super::RunError;
+use super::line::refuse;
+use crate::named::{above, below, first, last, scan};
+use crate::replies::Replies;
+use crate::words::{Rooms, bytes_of};
+use sled_lines::words::{number_of, two_words};
+use sled_tree::{IVec, Log, TreeError, Trees};
+use std::alloc::Global;
+use std::io::Write;
+
+/// A scan asks for at most so many pairs.
+const MOST_PAIRS: u64 = 1_000;
+
+/// On which side of a bound a pair is looked for.
+#[derive(Clone, Copy)]
+pub enum Side {
+    Above,
+    Below,
+}
+
+/// `first NAME` looks above all keys' lower end, and `last NAME` below their upper one.
+pub fn serve_end<L: Log, W: Write>(
+    trees: &mut Trees<L>,
+    rooms: &mut Rooms,
+    word: &[u8],
+    side: Side,
+    replies: &mut Replies<'_, W>,
+) -> Result<(), RunError> {
+    let Some(name) = bytes_of(word, &mut rooms.name)? else {
+        return refuse(replies);
+    };
+    match side {
+        Side::Above => reply_pair(&first(trees, name), replies),
+        Side::Below => reply_pair(&last(trees, name), replies),
+    }
+}
+
+/// `above NAME KEY` and `below NAME KEY`
+pub fn serve_next<L: Log, W: Write>(
+    alloc: Global,
+    trees: &mut Trees<L>,
+    rooms: &mut Rooms,
+    words: &[u8],
+    side: Side,
+    replies: &mut Replies<'_, W>,
+) -> Result<(), RunError> {
+    let Some((name, key)) = two_words(Some(words)) else {
+        return refuse(replies);
+    };
+    let Some(name) = bytes_of(name, &mut rooms.name)? else {
+        return refuse(replies);
+    };
+    let Some(key) = bytes_of(key, &mut rooms.key)? else {
+        return refuse(replies);
+    };
+    let key = IVec::from_slice(alloc, key)?;
+    match side {
+        Side::Above => reply_pair(&above(trees, name, key), replies),
+        Side::Below => reply_pair(&below(trees, name, key), replies),
+    }
+}
+
+/// `scan NAME FROM COUNT`
+pub fn serve_scan<L: Log, W: Write>(
+    alloc: Global,
+    trees: &mut Trees<L>,
+    rooms: &mut Rooms,
+    words: &[u8],
+    replies: &mut Replies<'_, W>,
+) -> Result<(), RunError> {
+    let Some((name, rest)) = two_words(Some(words)) else {
+        return refuse(replies);
+    };
+    let Some((from, count)) = two_words(Some(rest)) else {
+        return refuse(replies);
+    };
+    let Some(name) = bytes_of(name, &mut rooms.name)? else {
+        return refuse(replies);
+    };
+    let Some(from) = bytes_of(from, &mut rooms.key)? else {
+        return refuse(replies);
+    };
+    let Some(count) = count_of(count) else {
+        return refuse(replies);
+    };
+    let from = IVec::from_slice(alloc, from)?;
+    reply_pairs(&scan(alloc, trees, name, from, count), replies)
+}
+
+// How many pairs the word asks for, if it may.
+fn count_of(word: &[u8]) -> Option<usize> {
+    match number_of(word)? {
+        count @ 1..=MOST_PAIRS => Some(count as usize),
+        _ => None,
+    }
+}
+
+fn reply_pair<W: Write>(
+    answer: &Result<Option<(IVec, IVec)>, TreeError>,
+    replies: &mut Replies<'_, W>,
+) -> Result<(), RunError> {
+    match answer {
+        Ok(Some(pair)) => {
+            replies.text(b"pair")?;
+            put_pair(pair, replies)?;
+            replies.text(b"\n")?;
+        }
+        Ok(None) => replies.text(b"none\n")?,
+        Err(error) => replies.error(error)?,
+    }
+    Ok(())
+}
+
+fn reply_pairs<W: Write>(
+    answer: &Result<Vec<(IVec, IVec)>, TreeError>,
+    replies: &mut Replies<'_, W>,
+) -> Result<(), RunError> {
+    match answer {
+        Ok(pairs) => put_pairs(pairs, replies),
+        Err(error) => Ok(replies.error(error)?),
+    }
+}
+
+fn put_pairs<W: Write>(
+    pairs: &[(IVec, IVec)],
+    replies: &mut Replies<'_, W>,
+) -> Result<(), RunError> {
+    replies.text(b"pairs ")?;
+    replies.number(pairs.len() as u64)?;
+    for pair in pairs {
+        put_pair(pair, replies)?;
+    }
+    replies.text(b"\n")?;
+    Ok(())
+}
+
+fn put_pair<W: Write>(pair: &(IVec, IVec), replies: &mut Replies<'_, W>) -> Result<(), RunError> {
+    replies.text(b" ")?;
+    replies.word(pair.0.as_slice())?;
+    replies.text(b" ")?;
+    replies.word(pair.1.as_slice())?;
+    Ok(())
+}
