@@ -104,12 +104,24 @@ fn names_are(trees: &Trees<MemLog>, wanted: &[&[u8]]) -> bool {
     }
 }
 
+// Whether each of these is found with the map that an opening answers, and the other name with none.
+fn finds(trees: &mut Trees<MemLog>, names: &[&[u8]], other: &[u8]) -> bool {
+    for name in names {
+        match (trees.get_tree(name), trees.open(name)) {
+            (Ok(Some(found)), Ok(opened)) if found == opened => {}
+            _ => return false,
+        }
+    }
+    trees.get_tree(other) == Ok(None)
+}
+
 fn are_in_order(alloc: Global) -> bool {
     let log = MemLog::new(alloc, 512, 16);
     match opened(alloc, CONFIG, log, Limits::usual()) {
         Some(mut trees) => {
             opens_all(&mut trees)
                 && drops(&mut trees, b"fig")
+                && finds(&mut trees, &[b"pear", b"", b"apple"], b"fig")
                 && names_are(&trees, &[b"", b"apple", b"pear"])
         }
         None => false,
