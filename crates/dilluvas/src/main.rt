@@ -1,21 +1,8 @@
-//! Ordered maps behind a script: lines of keys and values in, reply lines out.
-//!
-//! In reading order:
-//!
-//! - `program`: the program: its words, its streams and its status
-//! - `script`: lines that ask for calls of maps, and the replies to them
-//! - `named`: calls of the maps by their names
-//! - `words`: how byte strings are spelled as words of a line, and read from them
-//! - `replies`: replies that are written piece by piece
+//! Ordered maps behind a script: the program `dilluvas FILE`, or `dilluvas :memory:`. All but its words is in `sled_keys`, which says what
+//! of it is proved, and what is shown by tests.
 #![tactic(auto)]
 
-mod named;
-mod program;
-mod replies;
-mod script;
-mod words;
-
-use program::{NoWords, drive};
+use sled_keys::{NoWords, drive};
 use std::env;
 use std::io::ErrorKind;
 use std::process::ExitCode;

@@ -1,5 +1,8 @@
 //! The script over maps that are opened: in memory, or in a file.
 
+ghost use Rattle.std.specs.Prelude.{◌≡◌, true, false};
+ghost use Rattle.sled_log.specs.Events.{is_open};
+
 use super::Fault;
 use crate::script::{RunError, run};
 use sled_tree::sled_pagecache::LogError;
@@ -77,7 +80,10 @@ fn serve_log<L: Log, R: Read, W: Write>(
     log: L,
     reader: &mut R,
     writer: &mut W,
-) -> Result<(), Fault> {
+) -> Result<(), Fault>
+    requires usable { (L.state log).usable ≡ true }
+    requires closed { is_open (L.state log).pending ≡ false }
+{
     match PageCache::start(alloc, CONFIG, log) {
         Ok(cache) => serve(alloc, Trees::new(alloc, cache), reader, writer),
         Err((error, _)) => Err(Fault::Opening(error)),

@@ -3,7 +3,8 @@
 mod opened;
 
 use crate::script::RunError;
-use opened::{serve_file, serve_memory};
+use opened::serve_file;
+pub use opened::{serve_disk, serve_memory};
 use sled_tree::Error;
 use std::alloc::AllocGlobal;
 use std::fs::{File, Files};
@@ -31,7 +32,7 @@ pub enum NoWords {
 
 /// Why a job failed.
 #[derive(Debug, Drop, thiserror::Error)]
-enum Fault {
+pub enum Fault {
     #[error(transparent)]
     Opening(Error),
     #[error(transparent)]

@@ -1,13 +1,11 @@
 //! Replies that are written piece by piece.
 
-ghost use Rattle.std.specs.Prelude.{◌≤◌, ◌+◌, ◌*◌, length};
+ghost use Rattle.std.specs.Prelude.{◌≤◌, length};
 ghost use Rattle.sled_lines.specs.Settings.{piece_room};
 
-use crate::words::are_plain;
-use sled_lines::output::{
-    Unwritten, flush_unless, gather_number, gather_text, make_room, write_rest,
-};
-use sled_lines::piece::{Piece, ROOM};
+use crate::spelling::gather_word;
+use sled_lines::output::{Unwritten, flush_unless, gather_number, gather_text, write_rest};
+use sled_lines::piece::Piece;
 use sled_lines::replies::{gather_error, gather_labelled};
 use sled_tree::{Error, TreeError, Why};
 use std::io::Write;
@@ -57,23 +55,7 @@ impl<'a, W: Write> Replies<'a, W> {
 
     /// The word that spells these bytes.
     pub fn word(&mut self, bytes: &[u8]) -> Result<(), Unwritten> {
-        match bytes {
-            b"" => self.text(b"-"),
-            b"-" => self.text(b"\\2d"),
-            _ => self.spell(bytes),
-        }
-    }
-
-    // The bytes as each of them is spelled, as many at once as a piece has room for.
-    fn spell(&mut self, bytes: &[u8]) -> Result<(), Unwritten> {
-        let mut left = bytes;
-        while !left.is_empty() {
-            let (part, rest) = left.split_at(left.len().min(ROOM / 3));
-            make_room(self.writer, &mut self.piece, 3 * part.len())?;
-            put_spelled(&mut self.piece, part);
-            left = rest;
-        }
-        Ok(())
+        gather_word(self.writer, &mut self.piece, bytes)
     }
 
     /// A line of the error.
@@ -105,25 +87,5 @@ impl<'a, W: Write> Replies<'a, W> {
     /// Writes and flushes what is left, if something is.
     pub fn finish(&mut self) -> Result<(), Unwritten> {
         write_rest(self.writer, &self.piece)
-    }
-}
-
-// Puts the bytes as each of them is spelled into a piece, which has room for them.
-fn put_spelled(piece: &mut Piece, bytes: &[u8])
-    requires { length piece.old + 3 * length bytes.now ≤ piece_room }
-{
-    if are_plain(bytes) {
-        piece.put_text(bytes);
-        return;
-    }
-    for byte in bytes {
-        match *byte {
-            b'\\' => piece.put_text(b"\\\\"),
-            b'!'..=b'~' => piece.push(*byte),
-            _ => {
-                piece.push(b'\\');
-                piece.put_hex(&[*byte]);
-            }
-        }
     }
 }
