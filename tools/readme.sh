@@ -14,6 +14,7 @@
 # - each program of crates/example_* has its session in examples/README.md, with what it writes (its file stdout, which the gate
 #   compares with its runs), and each block of code there stands in a source or a proof of one of them;
 # - each file of a crate's specs has its line in docs/dev/SPECS.md;
+# - docs/KEYS.md is as tools/keys.sh wants it;
 # - docs/API.md is what tools/api.sh prints;
 # - each relative link of a page leads to a file that is there, and to a heading of it, and each page of docs or bench that a source or a
 #   script names is there.
@@ -113,9 +114,9 @@ row_of() {
 
 # Compares one run of the program over a log in memory: $1 is what is printed to it, $2 the file of what it replies.
 compare_run() {
-    # What the script `sledpc` says of its building comes between the replies.
+    # What tools/run.sh says of the program's building comes between the replies.
     sed -n 's/^sledpc: //p' "$2" | while read -r said; do
-        grep -qF "say '$said'" sledpc || echo "$page: the script sledpc doesn't say '$said'" >>"$cut/faults"
+        grep -qF "say '$said'" tools/run.sh || echo "$page: tools/run.sh doesn't say '$said'" >>"$cut/faults"
     done
     sed '/^sledpc: /d' "$2" >"$work/replies"
     grep -qF -- "$(row_of "$1" "$work/replies")," "$work/scripts.rows" && return
@@ -319,4 +320,5 @@ tell_faults
 compare_calls
 compare_links
 compare_named_pages
+tools/keys.sh || status=1
 exit $status
