@@ -18,6 +18,7 @@ pub struct Replies<'a, W: Write> {
 }
 
 impl<'a, W: Write> Replies<'a, W> {
+    /// No reply is gathered yet.
     pub fn new(writer: &'a mut W) -> Replies<'a, W> {
         Replies {
             writer,
