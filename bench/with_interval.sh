@@ -20,8 +20,8 @@ cp "$top/crates.txt" "$top/HANDLES" "$copy"
 for crate in "$top"/crates/*; do
     copy_crate "${crate##*/}"
 done
-put_interval "$copy/crates/sledpc/src/program.rt" 'idgen_persist_interval: '
-put_interval "$copy/crates/sledpc/specs/Settings.antt" 'idgen_persist_interval = '
+put_interval "$copy/crates/sled_script/src/program.rt" 'idgen_persist_interval: '
+put_interval "$copy/crates/sled_script/specs/Settings.antt" 'idgen_persist_interval = '
 
 # Over an empty script the program does nothing.
 build_copied sledpc "$file" mem

@@ -1,13 +1,13 @@
 #!/bin/sh
 # Compares README.md, examples/README.md, docs/SCRIPT.md and docs/API.md with the code, word for word, and prints what differs:
 #
-# - each block of Rattle of README stands at the head of a file of a folder readme, of crates/sledpc/src/tests or
+# - each block of Rattle of README stands at the head of a file of a folder readme, of crates/sled_script_tests/src/tests or
 #   crates/sled_shared_tests/src, which is named as its function is and has a test after it, and each of these files has its block;
 # - each block of Rust of README that uses the crate dilluvas, of C and of Python is a program of bindings, which bindings/check.sh runs;
 # - each session of the program `./sledpc` in README and docs/SCRIPT.md is one that the gate makes. Over a log in memory it stands in the
 #   gate's run of the program (its words in crates/sledpc/args, its input in crates/sledpc/stdin, and its replies at the same lines of
-#   crates/sledpc/stdout), or is a row of the tests of the program; over a file the runs of a block are the first rows of a test, one
-#   after another; and so is one of a crew;
+#   crates/sledpc/stdout), or in tools/scripts/memory.rows; over a file the runs of a block are the first ones of a group of
+#   tools/scripts/file.rows; and a crew is one of tools/scripts.sh;
 # - each other command of a session is there;
 # - the minutes by crate of README's section 'Build it' are those of the table of docs/dev/GATE.md, and each crate of the program and of the
 #   library for other languages has its row;
@@ -23,9 +23,9 @@
 set -eu
 
 cd "$(CDPATH='' cd -- "$(dirname -- "$0")/.." && pwd)"
-examples='crates/sledpc/src/tests/readme crates/sled_shared_tests/src/readme'
+examples='crates/sled_script_tests/src/tests/readme crates/sled_shared_tests/src/readme'
 run=crates/sledpc
-tests=crates/sledpc/src/program/tests
+rows=tools/scripts
 work=$(mktemp -d)
 trap 'rm -rf "$work"' EXIT
 trap 'exit 1' HUP INT PIPE TERM
@@ -97,14 +97,23 @@ compare_bindings() {
     compare_program "$(echo "$cut"/*.python)" bindings/python/readme.py
 }
 
-# Puts the rows of a file of tests on one line, as ("..",".."),("..",".."), without what is between them.
+# Puts the runs of a file of rows on one line, as &[("..",".."),("..","..")],&[("..","..")], with the runs of each group together.
 rows_of() {
     awk '
-        { sub(/^ */, "") }
-        /^\/\// { next }
-        { rows = rows $0 }
-        END { gsub(/", "/, "\",\"", rows); gsub(/",\)/, "\")", rows); gsub(/\), \(/, "),(", rows); print rows }
-    ' "$tests/$1.rt" >"$work/$1.rows"
+        function end_run() { runs = runs (runs == "" ? "" : ",") "(\"" asked "\",\"" wanted "\")"; asked = wanted = "" }
+        function end_group() { if (inside) { end_run(); all = all "&[" runs "]," }; runs = ""; inside = 0 }
+        /^#/ { next }
+        /^$/ { end_group(); next }
+        { inside = 1 }
+        /^--$/ { end_run(); next }
+        {
+            at = index($0, " -> ")
+            line = substr($0, 1, at - 1)
+            asked = asked (sub(/\\c$/, "", line) ? line : line "\\n")
+            wanted = wanted substr($0, at + 4) "\\n"
+        }
+        END { end_group(); print all }
+    ' "$rows/$1.rows" >"$work/$1.rows"
 }
 
 # A row of a run: what is printed to it, and the file of what it replies.
@@ -119,7 +128,7 @@ compare_run() {
         grep -qF "say '$said'" tools/run.sh || echo "$page: tools/run.sh doesn't say '$said'" >>"$cut/faults"
     done
     sed '/^sledpc: /d' "$2" >"$work/replies"
-    grep -qF -- "$(row_of "$1" "$work/replies")," "$work/scripts.rows" && return
+    grep -qF -- "$(row_of "$1" "$work/replies")" "$work/memory.rows" && return
     if [ mem != "$(tr '\n' ' ' <"$run/args" | sed 's/ *$//')" ]; then
         differ "the word mem isn't that of $run/args"
     fi
@@ -135,7 +144,7 @@ compare_run() {
         }
     ' "$work/input" "$run/stdin")
     if [ -z "$first" ]; then
-        differ "no row of $tests/scripts.rt is this, and its lines are not in $run/stdin:"
+        differ "no run of $rows/memory.rows is this, and its lines are not in $run/stdin:"
         row_of "$1" "$work/replies"
         echo
         return
@@ -151,10 +160,10 @@ compare_run() {
 file_rows=''
 file_runs=''
 
-# Compares them: a test over a file that isn't there begins with these rows.
+# Compares them: a group over a file that isn't there at first begins with these runs.
 compare_file_runs() {
-    [ -z "$file_rows" ] || grep -qF -- "&[${file_rows%,}" "$work/files.rows" ||
-        differ "no test of $tests/files.rt begins with ${file_rows%,}"
+    [ -z "$file_rows" ] || grep -qF -- "&[${file_rows%,}" "$work/file.rows" ||
+        differ "no group of $rows/file.rows begins with ${file_rows%,}"
     file_rows=''
 }
 
@@ -182,9 +191,8 @@ compare_sessions() {
             ;;
         "printf '"*"' | ./sledpc mem") compare_run "$input" "$replies" ;;
         "./sledpc crew "*)
-            words=${text#"./sledpc crew "}
-            row="(\"${words% *}\",\"${words#* }\",\"$(cat "$replies")\\n\"),"
-            grep -qF -- "$row" "$work/crews.rows" || differ "no row of $tests/crews.rt is $row"
+            row="crew ${text#"./sledpc crew "} '$(cat "$replies")'"
+            grep -qxF -- "$row" tools/scripts.sh || differ "no line of tools/scripts.sh is: $row"
             ;;
         ./* | .ci/* | tools/*)
             [ -x "${text%% *}" ] || differ "there is no command ${text%% *}"
@@ -300,9 +308,8 @@ compare_calls() {
     fi
 }
 
-for rows in scripts files crews; do
-    rows_of "$rows"
-done
+rows_of memory
+rows_of file
 cut_page README.md
 compare_rust
 compare_bindings

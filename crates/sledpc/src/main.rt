@@ -1,21 +1,7 @@
-//! A page cache behind a script: lines in, reply lines out.
-//!
-//! In reading order:
-//!
-//! - `program`: the program: its words, its streams and its status
-//! - `script`: lines that ask for calls, and the replies to them
-//! - `lines`, `cuts`: the lines of an input, one at a time, and texts that are cut in two
-//! - `output`: texts that are written piece by piece
+//! The program `sledpc`: what it takes of the system. All else is [`sled_script`].
 #![tactic(auto)]
 
-mod cuts;
-mod lines;
-mod output;
-mod piece;
-mod program;
-mod script;
-
-use program::{NoWords, drive};
+use sled_script::{NoWords, drive};
 use std::env;
 use std::io::ErrorKind;
 use std::process::ExitCode;
@@ -49,6 +35,3 @@ fn words_of(rt: &HostRuntime) -> Result<Vec<String>, NoWords> {
         .collect(rt.alloc())
         .map_err(|_| NoWords::Memory)
 }
-
-#[cfg(test)]
-mod tests;

@@ -1,0 +1,11 @@
+pub mod PairWords
+pub mod Entries
+pub mod Answered
+pub mod Serving
+pub mod Batches
+pub mod Commands
+pub mod Marks
+pub mod Replied
+pub mod Leaves
+pub mod Job
+pub mod OverDisk

@@ -1,0 +1,10 @@
+pub mod Settings
+pub mod Pairs
+pub mod Commands
+pub mod Replies
+pub mod LentAnswers
+pub mod Runs
+pub mod Served
+pub mod Asked
+pub mod Job
+pub mod OverDisk

@@ -1,6 +1,0 @@
-use Rattle.sledpc.proofs.OverDisk.{served}
-use Rattle.sledpc.specs.Settings.{settings}
-use Rattle.sledpc.proofs.program.over_disk.serve_on.Goals as goal
-
-pub returns-in-Ok : goal.returns-in-Ok
-returns-in-Ok g c = λ told. served _ settings (g.D.Disk.seen c.args.disk) (g.R.Read.remaining c.args.reader.now) (g.W.Write.contents c.args.writer.now) (g.W.Write.contents c.serve.new.writer) c.in-Ok.cache c.serve.result (c.in-Ok.ensures.opened told) c.serve.ensures
