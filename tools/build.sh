@@ -1,10 +1,10 @@
 #!/bin/sh
-# Proves the program and the library for other languages, and builds them: crates/sledpc/out/sledpc, which ./sledpc runs then, and
-# crates/sled_c/out/libsled_c.a with the folder bindings/out (bindings/build.sh).
+# Proves the programs and the library for other languages, and builds them: crates/sledpc/out/sledpc and crates/dilluvas/out/dilluvas, which
+# ./sledpc and ./dilluvas run then, and crates/sled_c/out/libsled_c.a with the folder bindings/out (bindings/build.sh).
 #
 #     tools/build.sh [CRATE..]
 #
-# CRATE is sledpc or sled_c: that alone is made, and no folder. What was built of these sources by this toolchain stays. The libraries that
+# CRATE is sledpc, dilluvas or sled_c: that alone is made, and no folder. What was built of these sources by this toolchain stays. The libraries that
 # a release has proved are taken from its archive, where one is named by DILLUVAS_PROVED or lies beside the checkout (tools/take.sh).
 #
 # It tells on standard error which crate is proved, each tenth of its functions, and what is left by the processor minutes of
@@ -33,9 +33,9 @@ fail() {
 
 product() {
     case $1 in
-    sledpc) echo sledpc ;;
+    sledpc | dilluvas) echo "$1" ;;
     sled_c) echo libsled_c.a ;;
-    *) fail "there is nothing to build of '$1': sledpc and sled_c are" ;;
+    *) fail "there is nothing to build of '$1': sledpc, dilluvas and sled_c are" ;;
     esac
 }
 
@@ -108,14 +108,14 @@ watch() {
 
 # ---- proofs
 
-# The command that proves a crate and builds it. Over an empty script the program does nothing.
+# The command that proves a crate and builds it. Over an empty script a program does nothing.
 prove() {
     cd "crates/$crate" || return 1
-    if [ "$crate" = sledpc ]; then
-        rt run -- mem </dev/null
-    else
-        rt lib </dev/null
-    fi
+    case $crate in
+    sledpc) rt run -- mem </dev/null ;;
+    dilluvas) rt run -- :memory: </dev/null ;;
+    *) rt lib </dev/null ;;
+    esac
 }
 
 # Why it failed, if that can be told.
@@ -184,7 +184,7 @@ build() {
 # ---- all of it
 
 [ "$#" -gt 0 ] || whole=1
-[ "$#" -gt 0 ] || set -- sledpc sled_c
+[ "$#" -gt 0 ] || set -- sledpc dilluvas sled_c
 mkdir -p out 2>/dev/null || fail "no folder out can be made in $top"
 work=$(mktemp -d) || fail 'there is no folder for a file: set TMPDIR to one that can be written'
 trap 'rm -rf "$work"' EXIT

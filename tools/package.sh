@@ -1,10 +1,10 @@
 #!/bin/sh
-# Makes the archive of the program and the library that runs without the toolchain, of what was built of the sources that stand here.
+# Makes the archive of the programs and the library that runs without the toolchain, of what was built of the sources that stand here.
 #
 #     tools/package.sh FOLDER
 #
 # It is FOLDER/dilluvas-VERSION-x86_64-linux.tar.gz, and its own page (tools/release/README.md) says what is in it. What was proved is told by
-# out/gate/PROVED, which ./check writes. It takes the program and bindings/out as they are. The status is 0, or else 1, and then no archive
+# out/gate/PROVED, which ./check writes. It takes the programs and bindings/out as they are. The status is 0, or else 1, and then no archive
 # of this name is new.
 set -eu
 
@@ -20,7 +20,7 @@ fail() {
 }
 
 [ -f out/gate/PROVED ] || fail 'there is no out/gate/PROVED, which ./check writes: run that'
-tools/built.sh is sledpc sledpc || fail 'the program was not built of these sources: run tools/build.sh'
+tools/built.sh is sledpc sledpc && tools/built.sh is dilluvas dilluvas || fail 'a program was not built of these sources: run tools/build.sh'
 tools/built.sh is sled_c libsled_c.a || fail 'the library was not built of these sources: run tools/build.sh'
 for file in libdilluvas.a libdilluvas.so dilluvas.h dilluvas_file.h dilluvas_file.c; do
     [ -f "bindings/out/$file" ] || fail "there is no bindings/out/$file: run bindings/build.sh"
@@ -46,7 +46,7 @@ fill() {
 }
 
 mkdir "$made"
-put crates/sledpc/out/sledpc bin
+put crates/sledpc/out/sledpc crates/dilluvas/out/dilluvas bin
 put bindings/out/dilluvas.h bindings/out/dilluvas_file.h include
 put bindings/out/libdilluvas.a bindings/out/libdilluvas.so lib
 put bindings/out/dilluvas_file.c share/dilluvas
@@ -61,7 +61,7 @@ fill tools/release/README.md README.md
 python3 tools/release/wheel.py "$version" bindings/out/libdilluvas.so "$made/python"
 find "$made" -type d -exec chmod 755 {} +
 find "$made" -type f -exec chmod 644 {} +
-chmod 755 "$made/bin/sledpc" "$made/lib/libdilluvas.so"
+chmod 755 "$made/bin/sledpc" "$made/bin/dilluvas" "$made/lib/libdilluvas.so"
 (cd "$made" && find . -type f ! -name SUMS -exec sha256sum {} + | LC_ALL=C sort -k 2 >"$work/SUMS" && mv "$work/SUMS" SUMS)
 tools/release/archive.sh "$work" "$name" >"$work/tar"
 gzip -n -9 "$work/tar"

@@ -87,6 +87,8 @@ printf 'alloc\nset 2 1 62 76\nget 2\nset 2 1 63 77\n' | "$to/bin/sledpc" mem >sa
 [ "$(cat said)" = "$(printf 'page 2 1\nok 2\nleaf 2 62=76\nstale 2')" ] || fail "the program replies otherwise: $(cat said)"
 printf 'alloc 61=62\nflush\n' | "$to/bin/sledpc" file pages.log >said
 [ "$(echo 'get 2' | "$to/bin/sledpc" file pages.log)" = 'leaf 0 61=62' ] || fail 'what was flushed is not there'
+printf 'set fruit lime green\nflush\n' | "$to/bin/dilluvas" fruit.maps >said
+[ "$(echo 'get fruit lime' | "$to/bin/dilluvas" fruit.maps)" = 'value green' ] || fail 'a pair that was flushed is not there'
 
 tried=' the program'
 for tool in "${CC:-cc}" cargo python3; do

@@ -11,11 +11,12 @@ use std::alloc::{AllocGlobal, Global};
 use std::fs::{File, Files};
 use std::io::{BufReader, Read, Write};
 
-/// The settings of every cache that the program opens. The capacity is no more than a bound: memory is taken as pages are used.
+/// The settings of every cache that the program opens. The capacity, which is sled's own, is no more than a bound: memory is taken as pages
+/// are used. What isn't flushed yet is written to the file, and synced, a mebibyte at a time.
 const CONFIG: Config = Config {
-    cache_capacity: 67_108_864,
+    cache_capacity: 1_073_741_824,
     idgen_persist_interval: 10,
-    segment_size: 4096,
+    segment_size: 1_048_576,
 };
 
 /// Payloads above this many bytes are blobs in memory.
