@@ -20,9 +20,6 @@ _LINES = 16
 _ROUNDS = 30
 _COMMANDS = 400
 
-# A record that says that a batch was abandoned: its kind, the page of batches, and how long its payload is.
-_ABANDONED = bytes.fromhex("0e65fdffffffffffff0800000000000000")
-
 
 class Kills:
     """A file that is changed by one killed run after the other, with what it holds."""
@@ -30,7 +27,7 @@ class Kills:
     def __init__(self, program, random):
         self.program = program
         self.random = random
-        self.rounds = self.parts = self.abandoned = 0
+        self.rounds = 0
         self.held, self.last_id = {}, -1
 
     def round(self):
@@ -43,17 +40,11 @@ class Kills:
         found = self._found()
         self._judge(lines, replies, found)
         self.held = found
-        self._count_parts()
 
     def _begin(self):
         if os.path.exists(self.program.file("log")):
             os.remove(self.program.file("log"))
-        self.held, self.last_id, self.abandoned = {}, -1, 0
-
-    def _count_parts(self):
-        with open(self.program.file("log"), "rb") as log:
-            before, self.abandoned = self.abandoned, log.read().count(_ABANDONED)
-        self.parts += self.abandoned - before
+        self.held, self.last_id = {}, -1
 
     # ---- a kill
 

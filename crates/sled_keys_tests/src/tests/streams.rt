@@ -144,11 +144,11 @@ fn ended_at(alloc: Global, n: u64) -> Ended {
     }
 }
 
-/// Which one fails, of the first of these to the last. The opening makes eight of them, and each flush four.
+/// Which one fails, of the first of these to the last. The opening makes seven of them, and each flush four.
 const FAULTS: &[(u64, u64, Ended)] = &[
-    (1, 8, Ended::Unopened),
-    (9, 12, Ended::Kept),
-    (13, 17, Ended::Whole),
+    (1, 7, Ended::Unopened),
+    (8, 11, Ended::Kept),
+    (12, 17, Ended::Whole),
 ];
 
 // Whether it ends so wherever one of these fails.
