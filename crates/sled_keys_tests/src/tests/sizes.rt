@@ -2,26 +2,32 @@
 
 use super::*;
 
-// Puts the number with four digits behind the text.
-fn put_four(text: &mut Vec<u8>, number: usize) -> Result<(), AllocError> {
-    let mut place = 1_000;
-    for _ in 0..4 {
-        text.push(b'0' + (number / place % 10) as u8)?;
-        place /= 10;
-    }
+// Puts the last digit of the number behind the text.
+fn put_digit(text: &mut Vec<u8>, number: usize) -> Result<(), AllocError> {
+    text.push(b'0' + (number % 10) as u8)?;
     Ok(())
 }
 
-// The number without leading zeros, which is below 10,000.
+// The number, which is below 10,000, with four digits.
+fn put_four(text: &mut Vec<u8>, number: usize) -> Result<(), AllocError> {
+    put_digit(text, number / 1_000)?;
+    put_digit(text, number / 100)?;
+    put_digit(text, number / 10)?;
+    put_digit(text, number)
+}
+
+// The same without zeros in front.
 fn put_number(text: &mut Vec<u8>, number: usize) -> Result<(), AllocError> {
-    let mut place = 1_000;
-    for _ in 0..4 {
-        if number >= place || place == 1 {
-            text.push(b'0' + (number / place % 10) as u8)?;
-        }
-        place /= 10;
+    if number >= 1_000 {
+        put_digit(text, number / 1_000)?;
     }
-    Ok(())
+    if number >= 100 {
+        put_digit(text, number / 100)?;
+    }
+    if number >= 10 {
+        put_digit(text, number / 10)?;
+    }
+    put_digit(text, number)
 }
 
 // The key of a number, and its value behind a space.
@@ -55,7 +61,7 @@ fn ask(script: &mut Script, command: &[u8], number: usize, end: &[u8]) -> Result
 fn put_sets(script: &mut Script, count: usize) -> Result<(), AllocError> {
     for i in 0..count {
         script.asked.extend_from_slice(b"set m ")?;
-        put_pair(&mut script.asked, i * 7 % count)?;
+        put_pair(&mut script.asked, i.wrapping_mul(7) % count)?;
         script.asked.push(b'\n')?;
         script.wanted.extend_from_slice(b"new\n")?;
     }
