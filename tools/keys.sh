@@ -1,12 +1,12 @@
 #!/bin/sh
-# Compares the sessions of docs/KEYS.md with the tests of `dilluvas`, word for word, and prints what differs.
+# Compares the sessions of docs/KEYS.md and README with the tests of `dilluvas`, word for word, and prints what differs. Of README it takes those
+# that begin with this program, without what tools/run.sh says of it.
 #
 # Over maps in memory a session is a row of crates/sled_keys_tests/src/tests/scripts.rt; over a file the runs of a block are the first rows of a test
 # of crates/sled_keys_tests/src/tests/files.rt, one after another. The status is 0 where nothing differs, and else 1.
 set -eu
 
 cd "$(CDPATH='' cd -- "$(dirname -- "$0")/.." && pwd)"
-page=docs/KEYS.md
 tests=crates/sled_keys_tests/src/tests
 work=$(mktemp -d)
 trap 'rm -rf "$work"' EXIT
@@ -22,9 +22,9 @@ rows_of() {
     ' "$tests/$1.rt"
 }
 
-# The sessions of the page, a line each: where it stands, the program's word, and the row. Those over one file in a block are one.
+# The sessions of a page, a line each: where it stands, the program's word, and the row. Those over one file in a block are one.
 sessions() {
-    awk -v page="$page" '
+    awk -v page="$1" '
         function end_run() {
             if (word == "") return
             row = "(\"" asked "\",\"" wanted "\")"
@@ -34,13 +34,15 @@ sessions() {
             word = ""
         }
         function end_file() { if (file != "") print at "\t&[" rows; file = "" }
-        /^```/ { inside = !inside; end_run(); end_file(); next }
+        /^```/ { inside = !inside; other = 0; end_run(); end_file(); next }
         !inside { next }
         /^\$ / {
             end_run()
             text = $0
             place = page ":" FNR
-            if (text !~ /^\$ printf \047.*\047 \| \.\/dilluvas [^ ]+$/) { print place "\tnothing is known of the command " text; next }
+            other = text !~ /^\$ printf \047.*\047 \| \.\/dilluvas [^ ]+$/
+            if (other && page != "README.md") print place "\tnothing is known of the command " text
+            if (other) next
             sub(/^\$ printf \047/, "", text)
             word = text
             sub(/.* /, "", word)
@@ -49,15 +51,20 @@ sessions() {
             wanted = ""
             next
         }
+        other || /^dilluvas: / { next }
+        word == "" && page == "README.md" { next }
         word == "" { print page ":" FNR "\ta session begins with no command"; next }
         { gsub(/\\/, "&&"); wanted = wanted $0 "\\n" }
         END { end_run(); end_file() }
-    ' "$page"
+    ' "$1"
 }
 
 { rows_of scripts; rows_of files; } >"$work/rows"
-sessions >"$work/sessions"
-[ -s "$work/sessions" ] || echo "$page: it has no session" >"$work/differ"
+for page in docs/KEYS.md README.md; do
+    sessions "$page" >"$work/of_page"
+    [ -s "$work/of_page" ] || echo "$page: it has no session of dilluvas" >>"$work/differ"
+    cat "$work/of_page" >>"$work/sessions"
+done
 while IFS='	' read -r place row; do
     grep -qF -- "$row" "$work/rows" || printf '%s: no test has this row: %s\n' "$place" "$row"
 done <"$work/sessions" >>"$work/differ"

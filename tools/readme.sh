@@ -14,7 +14,7 @@
 # - each program of crates/example_* has its session in examples/README.md, with what it writes (its file stdout, which the gate
 #   compares with its runs), and each block of code there stands in a source or a proof of one of them;
 # - each file of a crate's specs has its line in docs/dev/SPECS.md;
-# - docs/KEYS.md is as tools/keys.sh wants it;
+# - docs/KEYS.md, and each session of `./dilluvas` in README, is as tools/keys.sh wants it;
 # - docs/API.md is what tools/api.sh prints;
 # - each relative link of a page leads to a file that is there, and to a heading of it, and each page of docs or bench that a source or a
 #   script names is there.
@@ -190,6 +190,8 @@ compare_sessions() {
             file_rows="$file_rows$(row_of "$input" "$replies"),"
             ;;
         "printf '"*"' | ./sledpc mem") compare_run "$input" "$replies" ;;
+        # tools/keys.sh compares these
+        "printf '"*"' | ./dilluvas "*) ;;
         "./sledpc crew "*)
             row="crew ${text#"./sledpc crew "} '$(cat "$replies")'"
             grep -qxF -- "$row" tools/scripts.sh || differ "no line of tools/scripts.sh is: $row"
@@ -217,7 +219,7 @@ minutes_of() {
 compare_minutes() {
     minutes_of '## Build it' README.md 3 >"$work/minutes"
     minutes_of '## Budget' docs/dev/GATE.md 3 >"$work/cells"
-    { tools/sum.sh --crates sledpc && tools/sum.sh --crates sled_c; } | LC_ALL=C sort -u >"$work/built"
+    { tools/sum.sh --crates sledpc && tools/sum.sh --crates dilluvas && tools/sum.sh --crates sled_c; } | LC_ALL=C sort -u >"$work/built"
     cut -d ' ' -f 1 "$work/minutes" | cmp -s - "$work/built" || differ "the rows of 'Build it' are not the crates that are built"
     LC_ALL=C comm -23 "$work/minutes" "$work/cells" >"$work/diff"
     [ ! -s "$work/diff" ] || differ "minutes of 'Build it' are not those of docs/dev/GATE.md: $(tr '\n' ';' <"$work/diff")"
