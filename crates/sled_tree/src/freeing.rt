@@ -7,6 +7,7 @@ ghost use Rattle.sled_tree.specs.Dropping.{AreLoose, AreReached, Frees, IsStopAt
 ghost use Rattle.sled_tree.specs.Maps.{Keeps};
 ghost use Rattle.sled_tree.specs.Performs.{Performs};
 
+use crate::walk::MOST_TURNS;
 use sled_node::Node;
 use sled_pagecache::{Error, IVec, Log, PageCache, PageId, PageView, sled_node};
 use sled_search::{Turn, route};
@@ -63,7 +64,7 @@ fn gather<L: Log>(
         → AreReached root found.new.items pages)) cache.old cache.new }
 {
     let mut at = root;
-    'turns: for _ in 0..u64::MAX {
+    'turns: for _ in 0..MOST_TURNS {
         let Stop { token, begins, way } = stop_at(alloc, cache, at, key)?;
         put(found, token, begins)?;
         match way {

@@ -13,7 +13,7 @@ mod carry;
 mod plan;
 
 use crate::trees::Limits;
-use crate::walk::turn_at;
+use crate::walk::{MOST_TURNS, turn_at};
 use carry::carry_out;
 use plan::{Neighbours, neighbours_at, plan_for};
 use sled_node::Node;
@@ -60,7 +60,7 @@ fn merge_way<L: Log>(
     ensures { Performs L.Log (Keeps (HasRoot root)) cache.old cache.new }
 {
     let mut at = root;
-    'turns: for _ in 0..u64::MAX {
+    'turns: for _ in 0..MOST_TURNS {
         match next_on(cache, root, at, key, limits)? {
             Some(page) => at = page,
             None => return Ok(()),

@@ -8,6 +8,7 @@ ghost use Rattle.sled_tree.specs.Performs.{Performs};
 ghost use Rattle.sled_tree.specs.Walks.{HasPlace, Says, Tells, Meets, IsPlaceOf, LinksPlace};
 
 use crate::trees::Limits;
+use crate::walk::MOST_TURNS;
 use sled_node::{Link, Node};
 use sled_pagecache::{Error, IVec, Log, PageCache, PageId, PageView, sled_node};
 use sled_search::{Turn, route};
@@ -54,7 +55,7 @@ pub fn seek<L: Log>(
 {
     let mut above = root;
     let mut at = root;
-    'turns: for _ in 0..u64::MAX {
+    'turns: for _ in 0..MOST_TURNS {
         match look_at(cache, at, key, limits)? {
             Look::Here(place) => return Ok(Met::Leaf(place)),
             Look::Full => return Ok(Met::Full(above, at)),

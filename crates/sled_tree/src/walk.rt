@@ -12,6 +12,9 @@ use sled_pagecache::{Error, IVec, Log, PageCache, PageId, sled_node};
 use sled_search::{Turn, route};
 use std::alloc::Global;
 
+/// So many turns no search takes but one that goes round: where a token's map was dropped, pages may lead in a circle.
+pub const MOST_TURNS: u64 = 1 << 20;
+
 // What a page says of a key.
 #[derive(Drop)]
 enum Sight {
@@ -32,7 +35,7 @@ pub fn value_for<L: Log>(
         cache.old cache.new }
 {
     let mut at = root;
-    'turns: for _ in 0..u64::MAX {
+    'turns: for _ in 0..MOST_TURNS {
         match sight_at(alloc, cache, at, key)? {
             Sight::Value(value) => return Ok(value),
             Sight::On(page) => at = page,
@@ -103,7 +106,7 @@ pub fn is_on_way<L: Log>(
         (λ pages is. is ≡ true → Leads pages key.now root page)) cache.old cache.new }
 {
     let mut at = root;
-    'turns: for _ in 0..u64::MAX {
+    'turns: for _ in 0..MOST_TURNS {
         if at == page {
             return Ok(true);
         }

@@ -7,7 +7,7 @@ ghost use Rattle.sled_tree.specs.Changed.{Reads};
 ghost use Rattle.sled_tree.specs.OrderedLeaves.{ComesBefore};
 ghost use Rattle.sled_tree.specs.Performs.{Performs};
 
-use crate::walk::turn_at;
+use crate::walk::{MOST_TURNS, turn_at};
 use sled_pagecache::{Error, IVec, Log, PageCache, PageId};
 use sled_search::{Turn, route_before};
 use std::ops::Bound;
@@ -34,7 +34,7 @@ pub fn leaf_of<L: Log>(cache: &mut PageCache<L>, root: PageId, key: &[u8]) -> Re
         ComesToLeafOf pages key.now key.now leaf root)) cache.old cache.new }
 {
     let mut at = root;
-    'turns: for _ in 0..u64::MAX {
+    'turns: for _ in 0..MOST_TURNS {
         match turn_at(cache, at, key)? {
             Turn::Here => return Ok(at),
             Turn::Down(page) | Turn::Right(page) => at = page,
@@ -54,7 +54,7 @@ pub fn leaf_before<L: Log>(
         cache.old cache.new }
 {
     let mut at = root;
-    'turns: for _ in 0..u64::MAX {
+    'turns: for _ in 0..MOST_TURNS {
         match turn_before_at(cache, at, bound)? {
             Turn::Here => return Ok(at),
             Turn::Down(page) | Turn::Right(page) => at = page,

@@ -13,38 +13,68 @@ const SHAPE: Shape = Shape {
 /// So many pairs are set in an order, and all are taken out in another one but each n-th, or all.
 #[derive(Clone, Copy, Debug)]
 struct Row {
-    pairs: usize,
-    children: usize,
+    // the most pairs of a leaf, and the most children of an index
+    limits: (usize, usize),
     count: u64,
-    // the keys are those of the numbers i * step, by the count: in their order where it is 1
-    step_in: u64,
-    step_out: u64,
-    kept: Option<u64>,
+    // the i-th key that is set, and the i-th that is taken out, are those of i times this, by the count
+    steps: (u64, u64),
+    // 0 where none stays
+    kept: u64,
     // no more pages are used then, and more were before; two are the cache's own
     most: usize,
 }
 
-const fn row(limits: (usize, usize), count: u64, steps: (u64, u64), kept: Option<u64>, most: usize) -> Row {
-    Row {
-        pairs: limits.0,
-        children: limits.1,
-        count,
-        step_in: steps.0,
-        step_out: steps.1,
-        kept,
-        most,
-    }
-}
-
 // With nothing left a map has its root, an index on each level and a leaf. With few pairs left it has no more leaves than pairs.
 const ROWS: &[Row] = &[
-    row((3, 3), 300, (1, 1), None, 14),
-    row((3, 3), 300, (7, 299), None, 14),
-    row((3, 3), 300, (7, 11), Some(10), 2 + 30 + 30 + 9),
-    row((4, 8), 500, (1, 499), Some(50), 2 + 10 + 10 + 4),
-    row((32, 128), 1000, (1, 1), None, 5),
-    row((32, 128), 1000, (1, 999), None, 5),
-    row((32, 128), 1000, (7, 379), Some(100), 2 + 10 + 1),
+    Row {
+        limits: (3, 4),
+        count: 300,
+        steps: (1, 1),
+        kept: 0,
+        most: 2 + 10,
+    },
+    Row {
+        limits: (3, 4),
+        count: 300,
+        steps: (7, 299),
+        kept: 0,
+        most: 2 + 10,
+    },
+    Row {
+        limits: (3, 4),
+        count: 300,
+        steps: (7, 11),
+        kept: 10,
+        most: 2 + 30 + 30 + 10,
+    },
+    Row {
+        limits: (4, 8),
+        count: 500,
+        steps: (1, 499),
+        kept: 50,
+        most: 2 + 10 + 10 + 5,
+    },
+    Row {
+        limits: (32, 128),
+        count: 1000,
+        steps: (1, 1),
+        kept: 0,
+        most: 2 + 3,
+    },
+    Row {
+        limits: (32, 128),
+        count: 1000,
+        steps: (1, 999),
+        kept: 0,
+        most: 2 + 3,
+    },
+    Row {
+        limits: (32, 128),
+        count: 1000,
+        steps: (7, 379),
+        kept: 100,
+        most: 2 + 10 + 2,
+    },
 ];
 
 fn used(trees: &Trees<MemLog>) -> usize {
@@ -72,15 +102,12 @@ fn number_at(row: &Row, i: u64, step: u64) -> u64 {
 }
 
 fn is_kept(row: &Row, number: u64) -> bool {
-    match row.kept {
-        Some(each) => number.checked_rem(each) == Some(0),
-        None => false,
-    }
+    number.checked_rem(row.kept) == Some(0)
 }
 
 fn fills(alloc: Global, trees: &mut Trees<MemLog>, pair: &mut Pair, row: &Row) -> bool {
     for i in 0..row.count {
-        let number = number_at(row, i, row.step_in);
+        let number = number_at(row, i, row.steps.0);
         if !inserts(alloc, trees, pair, SHAPE, number, number) {
             return false;
         }
@@ -90,7 +117,7 @@ fn fills(alloc: Global, trees: &mut Trees<MemLog>, pair: &mut Pair, row: &Row) -
 
 fn thins(alloc: Global, trees: &mut Trees<MemLog>, pair: &mut Pair, row: &Row) -> bool {
     for i in 0..row.count {
-        let number = number_at(row, i, row.step_out);
+        let number = number_at(row, i, row.steps.1);
         if !is_kept(row, number) && !removes(alloc, trees, pair, SHAPE, number) {
             return false;
         }
@@ -115,7 +142,7 @@ fn left(alloc: Global, trees: &mut Trees<MemLog>, row: &Row) -> usize {
 
 fn left_of(alloc: Global, config: Config, row: &Row) -> usize {
     let log = MemLog::new(alloc, 512, 16);
-    match opened(alloc, config, log, Limits::new(row.pairs, row.children)) {
+    match opened(alloc, config, log, Limits::new(row.limits.0, row.limits.1)) {
         Some(mut trees) => left(alloc, &mut trees, row),
         None => 0,
     }
