@@ -27,29 +27,50 @@ const CONFIG: Config = Config {
     segment_size: 4096,
 };
 
-// How many of the two pages are there behind a crash that leaves so many of the four events: the marks and the pages between them.
-// There is none where a crash can't leave these.
-fn found(alloc: Global, events: usize) -> Result<Option<usize>, Error> {
+// The log of a cache that the two pages were added to, and their root.
+fn added(alloc: Global) -> Result<Option<(MemLog, PageId)>, Error> {
     let log = MemLog::new(alloc, 512, 16);
     let mut cache = PageCache::start(alloc, CONFIG, log).map_err(|(error, _)| error)?;
     let root = add_tree(alloc, &mut cache)?;
     if cache.batch_open() {
         return Ok(None);
     }
-    let log = cache.into_log();
-    if !log.is_fair(events) {
-        return Ok(None);
+    Ok(Some((cache.into_log(), root)))
+}
+
+fn has_page<L: Log>(cache: &mut PageCache<L>, pid: PageId) -> bool {
+    match cache.get(pid) {
+        Ok(found) => found.is_some(),
+        Err(_) => false,
     }
-    let log = log.stop(events);
-    let mut cache = PageCache::start(alloc, CONFIG, log).map_err(|(error, _)| error)?;
-    let has_leaf = cache.get(2)?.is_some();
-    let has_root = cache.get(root)?.is_some();
-    Ok(Some([has_leaf, has_root].iter().filter(|is| **is).count()))
+}
+
+// Whether a cache over the log has so many of the two pages.
+fn has_pages(alloc: Global, log: MemLog, root: PageId, pages: usize) -> bool {
+    match PageCache::start(alloc, CONFIG, log) {
+        Ok(mut cache) => {
+            let has = [has_page(&mut cache, 2), has_page(&mut cache, root)];
+            has.iter().filter(|is| **is).count() == pages
+        }
+        Err(_) => false,
+    }
+}
+
+// Whether so many of the two pages are there behind a crash that leaves so many of the four events: the marks and the pages between
+// them. There is none where a crash can't leave these.
+fn leaves(alloc: Global, events: usize, pages: Option<usize>) -> bool {
+    let Ok(Some((log, root))) = added(alloc) else {
+        return false;
+    };
+    match pages {
+        Some(pages) => { log.is_fair(events) && has_pages(alloc, log.stop(events), root, pages) }
+        None => !log.is_fair(events),
+    }
 }
 
 #[test]
 fn a_tree_is_added_whole_or_not_at_all(rt: HostRuntime) {
     for (events, pages) in [(0, Some(0)), (1, None), (2, None), (3, None), (4, Some(2))] {
-        assert!(rt; found(rt.alloc(), events) == Ok(pages), "{events} events");
+        assert!(rt; leaves(rt.alloc(), events, pages), "{events} events");
     }
 }

@@ -51,7 +51,7 @@ fn put_in_place<H: Files<File = File>>(
     Ok(())
 }
 
-use super::open_file::open_file;
+use super::open_file::{is_there, open_file};
 use sled_pagecache::{Node, PageView};
 
 const CONFIG: Config = Config {
@@ -64,45 +64,73 @@ const PATH: &str = "rewritten by an example";
 
 const NEW_PATH: &str = "rewritten by an example, anew";
 
+type FileCache = PageCache<DiskLog<FileDisk>>;
+
 // Replaces the page of a token once, if it is the present one.
-fn replaced(
-    alloc: Global,
-    cache: &mut PageCache<DiskLog<FileDisk>>,
-    token: PageView,
-) -> Result<Option<PageView>, Error> {
-    match cache.replace(token.pid(), token, Node::default(alloc))? {
-        Ok(next) => Ok(Some(next)),
-        Err(_) => Ok(None),
+fn replaced(alloc: Global, cache: &mut FileCache, token: PageView) -> Option<PageView> {
+    match cache.replace(token.pid(), token, Node::default(alloc)) {
+        Ok(Ok(next)) => Some(next),
+        _ => None,
     }
 }
 
-// How many bytes the file of a page has that was replaced a hundred times, before and after.
-fn sizes(files: &HostRuntime) -> Result<Option<(u64, u64)>, Error> {
-    let alloc = files.alloc();
+fn allocated(alloc: Global, cache: &mut FileCache) -> Option<PageView> {
+    match cache.allocate(Node::default(alloc)) {
+        Ok((_, token)) => Some(token),
+        Err(_) => None,
+    }
+}
+
+// Whether a page is there that was replaced a hundred times.
+fn fills(alloc: Global, cache: &mut FileCache) -> bool {
+    let mut token = allocated(alloc, cache);
+    for _ in 0..100 {
+        token = match token {
+            Some(token) => replaced(alloc, cache, token),
+            None => return false,
+        };
+    }
+    token.is_some()
+}
+
+fn is_flushed(cache: &mut FileCache) -> bool {
+    cache.flush().is_ok()
+}
+
+// How many bytes the file has.
+fn size(cache: &mut FileCache) -> Option<u64> {
+    match cache.size_on_disk() {
+        Ok(bytes) => Some(bytes),
+        Err(_) => None,
+    }
+}
+
+// Whether the file of a cache has so many bytes once it is rewritten.
+fn shrinks_to(files: &HostRuntime, cache: FileCache, bytes: u64) -> bool {
+    match compact_file(files, files.alloc(), CONFIG, cache, ".", PATH, NEW_PATH) {
+        Ok(mut cache) => size(&mut cache) == Some(bytes),
+        Err(_) => false,
+    }
+}
+
+// Whether the file of a page has more than so many bytes that was replaced a hundred times, and so many once it is rewritten.
+fn shrinks(files: &HostRuntime, above: u64, bytes: u64) -> bool {
     // what an earlier run left
     let _ = files.remove_file(PATH);
-    let mut cache = open_file(files, alloc, PATH)?;
-    let (_, mut token) = cache.allocate(Node::default(alloc))?;
-    for _ in 0..100 {
-        let Some(next) = replaced(alloc, &mut cache, token)? else {
-            return Ok(None);
-        };
-        token = next;
+    match open_file(files, files.alloc(), PATH) {
+        Ok(mut cache) => {
+            fills(files.alloc(), &mut cache)
+                && is_flushed(&mut cache)
+                && size(&mut cache).is_some_and(|size| size > above)
+                && shrinks_to(files, cache, bytes)
+        }
+        Err(_) => false,
     }
-    cache.flush()?;
-    let before = cache.size_on_disk()?;
-    let cache = compact_file(files, alloc, CONFIG, cache, ".", PATH, NEW_PATH)?;
-    Ok(Some((before, cache.size_on_disk()?)))
-}
-
-// Whether the page is there when the file is opened again, and the other name is free.
-fn is_in_place(files: &HostRuntime) -> Result<bool, Error> {
-    let mut cache = open_file(files, files.alloc(), PATH)?;
-    Ok(cache.get(2)?.is_some() && files.metadata(NEW_PATH).is_err())
 }
 
 #[test]
 fn a_file_is_rewritten(rt: HostRuntime) {
-    assert!(rt; matches!(sizes(&rt), Ok(Some((before, 78))) if before > 2_500));
-    assert!(rt; is_in_place(&rt) == Ok(true));
+    assert!(rt; shrinks(&rt, 2_500, 78));
+    // the page is there when the file is opened again, and the other name is free
+    assert!(rt; is_there(&rt, PATH, 2) && rt.metadata(NEW_PATH).is_err());
 }

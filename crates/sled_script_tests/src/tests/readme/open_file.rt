@@ -24,22 +24,44 @@ pub fn open_file<H: Files<File = File> + Alloc>(
 
 use sled_pagecache::{Node, PageId};
 
-// Adds an empty page to the cache over a file, and answers how many bytes the flush behind it wrote.
-fn added(files: &HostRuntime, path: &str) -> Result<usize, Error> {
-    let mut cache = open_file(files, files.alloc(), path)?;
-    cache.allocate(Node::default(files.alloc()))?;
-    cache.flush()
+fn is_allocated(alloc: Global, cache: &mut PageCache<DiskLog<FileDisk>>) -> bool {
+    cache.allocate(Node::default(alloc)).is_ok()
 }
 
-// Whether the cache over a file has that page.
-fn has_page(files: &HostRuntime, path: &str, pid: PageId) -> Result<bool, Error> {
-    let mut cache = open_file(files, files.alloc(), path)?;
-    Ok(cache.get(pid)?.is_some())
+// Whether a flush writes so many bytes.
+fn flushes(cache: &mut PageCache<DiskLog<FileDisk>>, bytes: usize) -> bool {
+    match cache.flush() {
+        Ok(written) => written == bytes,
+        Err(_) => false,
+    }
+}
+
+fn has_page(cache: &mut PageCache<DiskLog<FileDisk>>, pid: PageId) -> bool {
+    match cache.get(pid) {
+        Ok(found) => found.is_some(),
+        Err(_) => false,
+    }
+}
+
+// Whether an empty page is added to the cache over a file, and the flush behind it writes so many bytes.
+fn is_added(files: &HostRuntime, path: &str, bytes: usize) -> bool {
+    match open_file(files, files.alloc(), path) {
+        Ok(mut cache) => is_allocated(files.alloc(), &mut cache) && flushes(&mut cache, bytes),
+        Err(_) => false,
+    }
+}
+
+// Whether the cache over a file has a page.
+pub fn is_there(files: &HostRuntime, path: &str, pid: PageId) -> bool {
+    match open_file(files, files.alloc(), path) {
+        Ok(mut cache) => has_page(&mut cache, pid),
+        Err(_) => false,
+    }
 }
 
 #[test]
 fn a_file_is_opened_again(rt: HostRuntime) {
-    assert!(rt; added(&rt, "opened by an example") == Ok(35));
-    assert!(rt; added(&rt, "opened by an example") == Ok(35));
-    assert!(rt; has_page(&rt, "opened by an example", 3) == Ok(true));
+    assert!(rt; is_added(&rt, "opened by an example", 35));
+    assert!(rt; is_added(&rt, "opened by an example", 35));
+    assert!(rt; is_there(&rt, "opened by an example", 3));
 }
