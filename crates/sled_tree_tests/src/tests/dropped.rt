@@ -107,12 +107,25 @@ fn names_are(trees: &Trees<MemLog>, wanted: &[&[u8]]) -> bool {
 // Whether each of these is found with the map that an opening answers, and the other name with none.
 fn finds(trees: &mut Trees<MemLog>, names: &[&[u8]], other: &[u8]) -> bool {
     for name in names {
-        match (trees.get_tree(name), trees.open(name)) {
-            (Ok(Some(found)), Ok(opened)) if found == opened => {}
-            _ => return false,
+        if !is_found(trees, name) {
+            return false;
         }
     }
     trees.get_tree(other) == Ok(None)
+}
+
+fn is_found(trees: &mut Trees<MemLog>, name: &[u8]) -> bool {
+    match trees.get_tree(name) {
+        Ok(Some(found)) => is_opened(trees, name, found),
+        _ => false,
+    }
+}
+
+fn is_opened(trees: &mut Trees<MemLog>, name: &[u8], wanted: Tree) -> bool {
+    match trees.open(name) {
+        Ok(opened) => opened == wanted,
+        Err(_) => false,
+    }
 }
 
 fn are_in_order(alloc: Global) -> bool {
