@@ -45,9 +45,12 @@ fn has_page<L: Log>(cache: &mut PageCache<L>, pid: PageId) -> bool {
     }
 }
 
-// Whether a cache over the log has so many of the two pages.
-fn has_pages(alloc: Global, log: MemLog, root: PageId, pages: usize) -> bool {
-    match PageCache::start(alloc, CONFIG, log) {
+// Whether a crash may leave so many events of the log, and a cache over them has so many of the two pages.
+fn has_pages(alloc: Global, log: MemLog, events: usize, root: PageId, pages: usize) -> bool {
+    if !log.is_fair(events) {
+        return false;
+    }
+    match PageCache::start(alloc, CONFIG, log.stop(events)) {
         Ok(mut cache) => {
             let has = [has_page(&mut cache, 2), has_page(&mut cache, root)];
             has.iter().filter(|is| **is).count() == pages
@@ -63,7 +66,7 @@ fn leaves(alloc: Global, events: usize, pages: Option<usize>) -> bool {
         return false;
     };
     match pages {
-        Some(pages) => { log.is_fair(events) && has_pages(alloc, log.stop(events), root, pages) }
+        Some(pages) => has_pages(alloc, log, events, root, pages),
         None => !log.is_fair(events),
     }
 }

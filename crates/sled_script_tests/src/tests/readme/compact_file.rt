@@ -14,26 +14,22 @@ fn compact_file<H: Files<File = File> + Alloc>(
     new_path: &str,
 ) -> Result<PageCache<DiskLog<FileDisk>>, Error> {
     cache.flush()?;
-    let log = new_log(files, alloc, config, new_path)?;
+    let disk = new_file(files, new_path)?;
+    let segment_size = config.segment_size as u64;
+    let log = DiskLog::open(alloc, disk, segment_size, 16).map_err(|(error, _)| error)?;
     let log = cache.rewrite_into(log).map_err(|(error, _)| error)?;
     // The new file has all pages, and is durable.
     put_in_place(files, folder, path, new_path)?;
     PageCache::start(alloc, config, log).map_err(|(error, _)| error)
 }
 
-// A log with no messages in a new file.
-fn new_log<H: Files<File = File> + Alloc>(
-    files: &H,
-    alloc: Global,
-    config: Config,
-    new_path: &str,
-) -> Result<DiskLog<FileDisk>, Error> {
+// A new file with a log of no messages.
+fn new_file<H: Files<File = File> + Alloc>(files: &H, new_path: &str) -> Result<FileDisk, Error> {
     // what an attempt left that came to no end
     let _ = files.remove_file(new_path);
     let mut disk = FileDisk::open(files, new_path)?;
     DiskLog::create(&mut disk)?;
-    let segment_size = config.segment_size as u64;
-    DiskLog::open(alloc, disk, segment_size, 16).map_err(|(error, _)| error.into())
+    Ok(disk)
 }
 
 // Puts the new file in the place of the old one, for good once the folder is synced.
