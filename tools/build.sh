@@ -135,7 +135,7 @@ prove_crate() {
         tail -n 20 "$log" >&2
         fail "$crate was not built$(why); all that was said is in $log"
     fi
-    if sed "1,/^== $crate\$/d" "$log" | grep -q '^logic=proved '; then
+    if awk -v mark="== $crate" 'behind && /^logic=proved / { found = 1 } $0 == mark { behind = 1 } END { exit !found }' "$log"; then
         say "$crate: proved and built, after $(span "$(($(date +%s) - began))")"
     else
         say "$crate: was proved before"

@@ -118,8 +118,8 @@ impl Accounts {
 
     /// The accounts in the order of their names: those that one leaf has, which are all of a few.
     pub fn balances(&mut self) -> Result<Vec<(IVec, IVec)>, TreeError> {
-        self.maps
-            .range(self.balances, &Bound::Unbounded, &Bound::Unbounded)
+        let all = Bound::Unbounded;
+        Ok(self.maps.range(self.balances, &all, &all)?.pairs)
     }
 
     /// The last transfer, with its number.

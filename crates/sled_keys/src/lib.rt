@@ -4,7 +4,6 @@
 //!
 //! - `program`: the program that runs it: its words, its streams and its status
 //! - `script`: lines that ask for calls of maps, and the replies to them
-//! - `named`: calls of the maps by their names
 //! - `words`, `spelling`: byte strings that words of a line spell, and the words that spell them
 //! - `replies`: replies that are written piece by piece
 //!
@@ -12,7 +11,6 @@
 //! clauses of `bytes_of` and `gather_word`; which call a line asks for, and what it is replied to, is shown by tests.
 #![tactic(auto)]
 
-mod named;
 pub mod program;
 pub mod replies;
 pub mod script;

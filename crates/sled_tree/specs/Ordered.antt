@@ -1,11 +1,12 @@
 -- The pairs of a map next to a bound, and within two.
-use Rattle.std.specs.Prelude.{◌≡◌, Bool, true, not, List, [], ◌∷◌, ◌++◌, Option, None, Some}
+use Rattle.std.specs.Prelude.{◌≡◌, Bool, true, not, List, [], ◌∷◌, ◌++◌, Option, None, Some, IfSome}
 use Rattle.std.specs.List.{filter}
 use Rattle.std.specs.declared.ops.Bound.{Bound}
 use Rattle.std.specs.declared.ops.Bound.TheVariants.{Included, Excluded, Unbounded}
-use Rattle.sled_base.specs.Order.{Bytes, is_below}
-use Rattle.sled_search.specs.Map.{or_else}
-use Rattle.sled_search.specs.Ordered.{is_before}
+use Rattle.sled_base.specs.Order.{Bytes, IsBelow, is_below}
+use Rattle.sled_search.specs.Map.{Map, or_else}
+use Rattle.sled_search.specs.Ordered.{is_before, start_of}
+use Rattle.sled_tree.specs.declared.neighbours.pieces.Piece.{Piece}
 
 -- Whether a key is behind a bound. An included key is both behind its bound and before it.
 abbrev pub is_behind : Bound Bytes → Bytes → Bool
@@ -32,8 +33,14 @@ abbrev pub last_of : {X : Type 0} → List X → Option X
 last_of [] = None
 last_of (x ∷ xs) = or_else (last_of xs) (Some x)
 
--- the list begins with these, which are none only where it is empty
-pub record BeginsWith {X : Type 0} (xs front : List X) : Type 0 where
-  pub rest : List X
-  pub is : xs ≡ front ++ rest
-  pub some : front ≡ [] → xs ≡ []
+-- those from a key on and before a bound, or none where there is no key
+abbrev pub from_on : {V : Type 0} → Option Bytes → Bound Bytes → List (Bytes × V) → List (Bytes × V)
+from_on (Some key) to pairs = within (Included key) to pairs
+from_on None to pairs = []
+
+-- A piece of what the map has within two bounds: the first pairs, and behind these the others. It has none only where the map has none, and
+-- the others begin above the beginning, so that piece after piece comes to an end.
+pub record IsPieceOf (from to : Bound Bytes) (m : Map) (piece : Piece) : Type 0 where
+  pub pairs : within from to m ≡ piece.pairs.items ++ from_on piece.rest to m
+  pub some : piece.pairs.items ≡ [] → piece.rest ≡ None
+  pub further : IfSome piece.rest (λ key. IsBelow (start_of from) key)

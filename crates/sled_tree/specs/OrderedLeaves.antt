@@ -2,18 +2,18 @@
 use Rattle.std.specs.Prelude.{◌≡◌, ◌≢◌, ◌⊎◌, ℕ, ◌+◌, List, [], ◌∷◌, ◌++◌, length, Option, Some, None}
 use Rattle.std.specs.declared.ops.Bound.{Bound}
 use Rattle.std.specs.declared.ops.Bound.TheVariants.{Included, Excluded}
-use Rattle.sled_base.specs.Order.{Bytes}
+use Rattle.sled_base.specs.Order.{Bytes, IsBelow}
 use Rattle.sled_log.specs.Contents.{Content}
 use Rattle.sled_node.specs.Neighbours.{IsBehind, IsBefore, IsLeast, IsGreatest, HasNone}
 use Rattle.sled_node.specs.Node.{WholeNode, Item, Value, IsWellFormed}
 use Rattle.sled_search.specs.Map.{Map}
-use Rattle.sled_search.specs.Ordered.{IsNextAbove, IsNextBelow, IsLeafBefore, GoesBefore}
+use Rattle.sled_search.specs.Ordered.{IsNextAbove, IsNextBelow, IsLeafBefore, GoesBefore, start_of}
 use Rattle.sled_search.specs.Search.{HasNodeAt, ComesToLeafOf, IsTreeOf}
 use Rattle.sled_tree.specs.Ordered.{behind, within}
 use Rattle.sled_tree.specs.declared.neighbours.Near.{Near}
 use Rattle.sled_tree.specs.declared.neighbours.Near.TheVariants.{Pair, Further, Nothing}
 use Rattle.sled_tree.specs.declared.neighbours.count.Part.{Part}
-use Rattle.sled_tree.specs.declared.neighbours.pieces.Piece.{Piece}
+use Rattle.sled_tree.specs.declared.neighbours.pieces.LeafPart.{LeafPart}
 
 -- the search for the keys right before a bound comes to that leaf
 abbrev pub ComesBefore : List Content → ℕ → Bound Bytes → ℕ → Type 0
@@ -58,24 +58,20 @@ abbrev pub as_items : Map → List (Bytes × Item)
 as_items [] = []
 as_items (pair ∷ m) = (pair.0, Value pair.1) ∷ as_items m
 
--- the one item, if there is one
-abbrev pub one_of : {X : Type 0} → Option X → List X
-one_of (Some x) = x ∷ []
-one_of None = []
-
 -- what a leaf has within the bounds, and where it ends
-pub record ShowsPiece (from to : Bound Bytes) (piece : Piece) (n : WholeNode) : Type 0 where
+pub record ShowsWithin (from to : Bound Bytes) (part : LeafPart) (n : WholeNode) : Type 0 where
   pub well_formed : IsWellFormed n
-  pub pairs : as_items piece.pairs.items ≡ within from to n.pairs
-  pub end : n.hi ≡ piece.end
+  pub pairs : as_items part.pairs.items ≡ within from to n.pairs
+  pub end : n.hi ≡ part.end
 
--- the same of the map: those pairs come first within the bounds, and the others are from the end on
-pub record IsPieceOf (from to : Bound Bytes) (m : Map) (piece : Piece) : Type 0 where
-  pub ends : piece.end ≡ [] → within from to m ≡ piece.pairs.items
-  pub goes_on : piece.end ≢ [] → within from to m ≡ piece.pairs.items ++ within (Included piece.end) to m
+-- the same of the map: those pairs come first within the bounds, and the others are from the end on, which is above the beginning
+pub record IsPartOf (from to : Bound Bytes) (m : Map) (part : LeafPart) : Type 0 where
+  pub ends : part.end ≡ [] → within from to m ≡ part.pairs.items
+  pub goes_on : part.end ≢ [] → within from to m ≡ part.pairs.items ++ within (Included part.end) to m
+  pub further : part.end ≢ [] → IsBelow (start_of from) part.end
 
-abbrev pub SeesPiece : ℕ → Bound Bytes → Bound Bytes → List Content → Piece → Type 0
-SeesPiece root from to pages piece = (m : Map) → IsTreeOf pages root m → IsPieceOf from to m piece
+abbrev pub SeesPart : ℕ → Bound Bytes → Bound Bytes → List Content → LeafPart → Type 0
+SeesPart root from to pages part = (m : Map) → IsTreeOf pages root m → IsPartOf from to m part
 
 -- ---- how many there are
 

@@ -12,6 +12,7 @@
 //! - `swap`: setting a value, or taking one out, where another one stands
 //! - `neighbours`: the nearest pairs on either side of a bound, those between two, and how many there are
 //! - `freeing`: the pages of a map that is dropped
+//! - `named`: calls of the maps by their names
 //! - `examples`: what the definitions of these are, worked out
 //! - `calls`: that each call keeps the word that `openings` asks of it
 //! - `openings`: what holds of the maps of caches that are opened over one log, one after another
@@ -22,6 +23,7 @@ pub mod error;
 pub mod examples;
 mod freeing;
 mod merging;
+pub mod named;
 mod neighbours;
 pub mod openings;
 mod place;
@@ -32,6 +34,7 @@ pub mod trees;
 mod walk;
 
 pub use error::TreeError;
+pub use neighbours::pieces::Piece;
 pub use sled_pagecache::{
     self, Config, Device, Disk, DiskLog, Error, FileDisk, IVec, Log, MemDisk, MemLog, PageCache,
     PageId, Why,

@@ -23,7 +23,7 @@ pub struct Tree {
 
 /// How many pairs a leaf may have, and how many children an index, before it is split.
 ///
-/// Both are from 3 to 65,536. Short pairs want leaves of 32 to 64, and values of some hundred bytes want smaller ones.
+/// Both are from 4 to 65,536. Short pairs want leaves of 32 to 64, and values of some hundred bytes want smaller ones.
 #[derive(Clone, Copy, Debug, PartialEq, Eq)]
 pub struct Limits {
     pairs: usize,
@@ -89,8 +89,8 @@ impl Limits {
 fn between(number: usize) -> usize
     ensures { result ≡ nearest number }
 {
-    if number < 3 {
-        3
+    if number < 4 {
+        4
     } else if number > 65_536 {
         65_536
     } else {
@@ -140,6 +140,14 @@ impl<L: Log> Trees<L> {
         ensures { result ≡ self }
     {
         self.cache
+    }
+
+    /// The cache, for calls of its own. A page of a map that they change, free or move to another number is that map's no more.
+    pub fn cache_mut(&mut self) -> &mut PageCache<L>
+        ensures old { result.old ≡ self.old }
+        ensures new { self.new ≡ result.new }
+    {
+        &mut self.cache
     }
 
     /// The cache, to be looked at.

@@ -2,13 +2,14 @@
 
 use super::RunError;
 use super::line::refuse;
-use crate::named::{above, below, first, last, scan};
 use crate::replies::Replies;
 use crate::words::{Rooms, bytes_of};
 use sled_lines::words::{number_of, two_words};
-use sled_tree::{IVec, Log, TreeError, Trees};
+use sled_tree::named::{above, below, first, last, range};
+use sled_tree::{IVec, Log, Piece, TreeError, Trees};
 use std::alloc::Global;
 use std::io::Write;
+use std::ops::Bound;
 
 /// A scan asks for at most so many pairs.
 const MOST_PAIRS: u64 = 1_000;
@@ -87,6 +88,43 @@ pub fn serve_scan<L: Log, W: Write>(
     };
     let from = IVec::from_slice(alloc, from)?;
     reply_pairs(&scan(alloc, trees, name, from, count), replies)
+}
+
+// The first pairs from a key on, in their order: so many, or all that there are.
+fn scan<L: Log>(
+    alloc: Global,
+    trees: &mut Trees<L>,
+    name: &[u8],
+    from: IVec,
+    most: usize,
+) -> Result<Vec<(IVec, IVec)>, TreeError> {
+    let mut pairs = Vec::new(alloc);
+    let mut rest = Some(from);
+    for _ in 0..most {
+        let Some(start) = rest else {
+            break;
+        };
+        rest = take_piece(alloc, trees, name, start, &mut pairs)?;
+        if pairs.len() >= most {
+            break;
+        }
+    }
+    pairs.truncate(most);
+    Ok(pairs)
+}
+
+// Puts the pairs that one leaf has from a key on behind the others, and answers where more begin.
+fn take_piece<L: Log>(
+    alloc: Global,
+    trees: &mut Trees<L>,
+    name: &[u8],
+    from: IVec,
+    pairs: &mut Vec<(IVec, IVec)>,
+) -> Result<Option<IVec>, TreeError> {
+    let piece = range(alloc, trees, name, &Bound::Included(from), &Bound::Unbounded)?;
+    let Piece { pairs: mut more, rest } = piece;
+    pairs.append(&mut more)?;
+    Ok(rest)
 }
 
 // How many pairs the word asks for, if it may.

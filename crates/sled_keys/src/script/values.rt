@@ -4,10 +4,10 @@ ghost use Rattle.std.specs.Prelude.{◌≤◌, length};
 
 use super::RunError;
 use super::line::refuse;
-use crate::named::{get, remove, set, swap};
 use crate::replies::Replies;
 use crate::words::{Rooms, bytes_of};
 use sled_lines::words::two_words;
+use sled_tree::named::{get, remove, set, swap};
 use sled_tree::{IVec, Log, TreeError, Trees};
 use std::alloc::{AllocError, Global};
 use std::io::Write;

@@ -4,9 +4,9 @@ ghost use Rattle.std.specs.Prelude.{◌≤◌, length};
 
 use super::RunError;
 use super::line::refuse;
-use crate::named::count;
 use crate::replies::Replies;
 use crate::words::{Rooms, bytes_of};
+use sled_tree::named::count;
 use sled_tree::{IVec, Log, TreeError, Trees};
 use std::io::Write;
 

@@ -46,8 +46,11 @@ impl Node {
         }
     }
 
-    // The place of a leaf's first pair behind the bound, or the number of pairs.
-    fn first_behind(&self, bound: &Bound<IVec>) -> usize
+    /// The place of the leaf's first pair behind the bound, or the number of pairs where none is behind it.
+    ///
+    /// An included key is behind its own bound, and without a bound all keys are. The node has to be a leaf; the bound may be out of its
+    /// range.
+    pub fn first_behind(&self, bound: &Bound<IVec>) -> usize
         requires leaf { self.now.is_index ≡ false }
         ensures { IsCount (λ key. IsBehind bound.now key
             → ⊥) (IsBehind bound.now) self.now.pairs result }
@@ -59,8 +62,11 @@ impl Node {
         }
     }
 
-    // The place after a leaf's last pair before the bound, or 0.
-    fn end_before(&self, bound: &Bound<IVec>) -> usize
+    /// The place after the leaf's last pair before the bound, or 0 where none is before it.
+    ///
+    /// An included key is before its own bound, and without a bound all keys are. The node has to be a leaf; the bound may be out of its
+    /// range.
+    pub fn end_before(&self, bound: &Bound<IVec>) -> usize
         requires leaf { self.now.is_index ≡ false }
         ensures { IsCount (IsBefore bound.now) (λ key. IsBefore bound.now key
             → ⊥) self.now.pairs result }
@@ -96,8 +102,8 @@ impl Node {
         }
     }
 
-    // A copy of a leaf's pair at a place, with its whole key.
-    fn whole_pair(&self, place: usize) -> Result<(IVec, IVec), AllocError>
+    /// A copy of the leaf's pair at a place, with its whole key. An error means that the copy could not be allocated.
+    pub fn whole_pair(&self, place: usize) -> Result<(IVec, IVec), AllocError>
         requires leaf { self.now.is_index ≡ false }
         requires within { place < length self.now.pairs }
         ensures there { IfOk result

@@ -6,7 +6,7 @@ ghost use Rattle.sled_search.specs.Search.{IsTreeOf};
 ghost use Rattle.sled_tree.specs.Changed.{Reads};
 ghost use Rattle.sled_tree.specs.Errors.{IsOfCache};
 ghost use Rattle.sled_tree.specs.Maps.{root_of};
-ghost use Rattle.sled_tree.specs.Ordered.{behind, before, within, first_of, last_of, BeginsWith};
+ghost use Rattle.sled_tree.specs.Ordered.{behind, before, first_of, last_of, IsPieceOf};
 ghost use Rattle.sled_tree.specs.Performs.{Performs};
 
 use super::{Tree, Trees};
@@ -14,7 +14,7 @@ use crate::error::TreeError;
 use crate::neighbours::above::next_above;
 use crate::neighbours::below::next_below;
 use crate::neighbours::count::count_all;
-use crate::neighbours::pieces::pairs_within;
+use crate::neighbours::pieces::{Piece, pairs_within};
 use sled_pagecache::{IVec, Log};
 use std::ops::Bound;
 
@@ -69,16 +69,16 @@ impl<L: Log> Trees<L> {
         Ok(next_below(&mut self.cache, tree.root, bound)?)
     }
 
-    /// The first pairs behind the one bound and before the other, in their order: those that one leaf has. There is none only where the map
-    /// has none. A call with the last key excluded goes on.
+    /// The first pairs behind the one bound and before the other, in their order: those that one leaf has, and the key from which on the
+    /// others are, if there are any. A call with that key included goes on. There is no pair only where the map has none there.
     pub fn range(
         &mut self,
         tree: Tree,
         from: &Bound<IVec>,
         to: &Bound<IVec>,
-    ) -> Result<Vec<(IVec, IVec)>, TreeError>
-        ensures pairs { Performs L.Log (Reads result (λ pages pairs. (m : Map)
-            → IsTreeOf pages (root_of tree) m → BeginsWith (within from.now to.now m) pairs.items))
+    ) -> Result<Piece, TreeError>
+        ensures pairs { Performs L.Log (Reads result (λ pages piece. (m : Map)
+            → IsTreeOf pages (root_of tree) m → IsPieceOf from.now to.now m piece))
             self.old self.new }
         ensures errors { IfErr result IsOfCache }
     {

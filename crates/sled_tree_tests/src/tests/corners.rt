@@ -38,12 +38,7 @@ const SHORT: Shape = Shape {
 
 const COUNTS: &[u64] = &[0, 1, 2, 3, 16, 17, 33, 1000];
 
-const LIMITS: &[(usize, usize)] = &[(3, 3), (3, 4), (16, 16), (32, 128)];
-
-// With three children an index may be split into one of two and one of one, which makes maps of falling keys as deep as they have leaves.
-fn is_tried(count: u64, limits: (usize, usize)) -> bool {
-    count < 100 || limits.1 > 3
-}
+const LIMITS: &[(usize, usize)] = &[(4, 4), (4, 5), (16, 16), (32, 128)];
 
 const LENGTHS: &[usize] = &[0, 1, 22, 23, 240, 241, 308, 2287];
 
@@ -177,9 +172,6 @@ fn walks(alloc: Global, corner: &Corner) -> Option<bool> {
 
 // How many orders of so many keys are right, before the first that isn't.
 fn orders_walked(alloc: Global, count: u64, limits: (usize, usize)) -> usize {
-    if !is_tried(count, limits) {
-        return ORDERS.len();
-    }
     for (place, order) in ORDERS.iter().enumerate() {
         let corner = Corner {
             count,
@@ -214,7 +206,7 @@ fn shape_walks(alloc: Global, count: u64, keys: usize, values: usize) -> bool {
             keys: Length::Of(keys),
             values: Length::Of(values),
         },
-        limits: (3, 3),
+        limits: (4, 4),
         order: Order::Rising,
     };
     walks(alloc, &corner) == Some(true)

@@ -161,7 +161,7 @@ fn opened_once(alloc: Global, disk: MemDisk, way: &Way) -> Result<Disked, (Outco
     let config = if reads { SMALL } else { CONFIG };
     match DiskLog::open(alloc, disk, way.segment_size, way.clean_every) {
         Ok(log) => match PageCache::start(alloc, config, log) {
-            Ok(cache) => Ok(Trees::with_limits(alloc, cache, Limits::new(3, 3))),
+            Ok(cache) => Ok(Trees::with_limits(alloc, cache, Limits::new(4, 4))),
             Err((error, log)) => Err((outcome_of(&error), log.into_disk())),
         },
         Err((error, disk)) => Err((outcome_of(&Error::from(error)), disk)),

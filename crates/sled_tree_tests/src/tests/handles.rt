@@ -4,10 +4,10 @@ use super::*;
 
 // What is asked for, and what is taken in its place.
 const LIMITS: &[(usize, usize)] = &[
-    (0, 3),
-    (2, 3),
-    (3, 3),
+    (0, 4),
+    (3, 4),
     (4, 4),
+    (5, 5),
     (65_535, 65_535),
     (65_536, 65_536),
     (65_537, 65_536),

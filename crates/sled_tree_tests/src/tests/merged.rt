@@ -27,21 +27,21 @@ struct Row {
 // With nothing left a map has its root, an index on each level and a leaf. With few pairs left it has no more leaves than pairs.
 const ROWS: &[Row] = &[
     Row {
-        limits: (3, 4),
+        limits: (4, 4),
         count: 300,
         steps: (1, 1),
         kept: 0,
         most: 2 + 10,
     },
     Row {
-        limits: (3, 4),
+        limits: (4, 4),
         count: 300,
         steps: (7, 299),
         kept: 0,
         most: 2 + 10,
     },
     Row {
-        limits: (3, 4),
+        limits: (4, 4),
         count: 300,
         steps: (7, 11),
         kept: 10,

@@ -59,7 +59,7 @@ const ROWS: &[Row] = &[
     Row {
         seed: 2,
         taken: (0, 0),
-        limit: 3,
+        limit: 4,
         ..ROW
     },
     Row {
@@ -82,13 +82,13 @@ const ROWS: &[Row] = &[
     Row {
         seed: 10,
         taken: (1, 200),
-        limit: 3,
+        limit: 4,
         ..ROW
     },
     Row {
         seed: 11,
         taken: (0, 199),
-        limit: 3,
+        limit: 4,
         ..ROW
     },
     Row {
@@ -162,8 +162,9 @@ fn is_end(
     }
 }
 
-// Whether these are the first pairs between the bounds, and none only where there is none.
-fn are_first(found: &[(IVec, IVec)], plain: &Plain, from: &Bound<IVec>, to: &Bound<IVec>) -> bool {
+// Whether the pairs are the first between the bounds, none only where there is none, and the others are from where it says.
+fn is_piece(piece: &Piece, plain: &Plain, from: &Bound<IVec>, to: &Bound<IVec>) -> bool {
+    let found = piece.pairs.as_slice();
     let mut place = 0usize;
     for (key, value) in plain.iter() {
         if is_within(from, to, key) {
@@ -172,11 +173,19 @@ fn are_first(found: &[(IVec, IVec)], plain: &Plain, from: &Bound<IVec>, to: &Bou
                     place = place.saturating_add(1);
                 }
                 Some(_) => return false,
-                None => return place > 0,
+                None => return begins_rest(&piece.rest, found, key),
             }
         }
     }
     place == found.len()
+}
+
+// Whether the others begin behind what was found, and with this key at the latest.
+fn begins_rest(rest: &Option<IVec>, found: &[(IVec, IVec)], next: &IVec) -> bool {
+    match (rest, found.last()) {
+        (Some(start), Some((last, _))) => last < start && start <= next,
+        _ => false,
+    }
 }
 
 // ---- the calls
@@ -211,7 +220,7 @@ fn agrees(trees: &mut Trees<MemLog>, pair: &Pair, from: &Bound<IVec>, to: &Bound
         return false;
     }
     match trees.range(pair.tree, from, to) {
-        Ok(found) => are_first(found.as_slice(), &pair.plain, from, to),
+        Ok(piece) => is_piece(&piece, &pair.plain, from, to),
         Err(_) => false,
     }
 }

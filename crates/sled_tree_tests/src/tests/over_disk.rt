@@ -208,7 +208,7 @@ pub(super) fn new_maps(alloc: Global, way: &Way) -> Option<Disked> {
 }
 
 fn maps_of(alloc: Global, cache: PageCache<DiskLog<MemDisk>>) -> Disked {
-    Trees::with_limits(alloc, cache, Limits::new(3, 3))
+    Trees::with_limits(alloc, cache, Limits::new(4, 4))
 }
 
 // What the n-th crash leaves in each byte that isn't synced, or that such bytes are as they were written.

@@ -124,7 +124,7 @@ fn new_maps(alloc: Global) -> Option<Trees<MemLog>> {
         alloc,
         CONFIG,
         MemLog::new(alloc, 512, 16),
-        Limits::new(3, 3),
+        Limits::new(4, 4),
     )
 }
 

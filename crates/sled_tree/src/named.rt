@@ -1,7 +1,7 @@
 //! Calls of the maps by their names. A name that has no map is one of an empty map, and is given a map where something is to be set.
 
-use sled_tree::{IVec, Log, Tree, TreeError, Trees};
-use std::alloc::{AllocError, Global};
+use crate::{IVec, Log, Piece, Tree, TreeError, Trees};
+use std::alloc::Global;
 use std::ops::Bound;
 
 /// The map of a name, which is made where there is none. A search in memory is all where there is one.
@@ -112,47 +112,19 @@ pub fn count<L: Log>(trees: &mut Trees<L>, name: &[u8]) -> Result<u64, TreeError
     }
 }
 
-/// The first pairs from a key on, in their order: so many, or all that there are.
-pub fn scan<L: Log>(
+/// The pairs within two bounds that one leaf has, and where the others begin.
+pub fn range<L: Log>(
     alloc: Global,
     trees: &mut Trees<L>,
     name: &[u8],
-    from: IVec,
-    most: usize,
-) -> Result<Vec<(IVec, IVec)>, TreeError> {
-    let mut pairs = Vec::new(alloc);
-    let Some(tree) = trees.get_tree(name)? else {
-        return Ok(pairs);
-    };
-    let mut bound = Bound::Included(from);
-    for _ in 0..most {
-        if !take_leaf(trees, tree, &bound, most, &mut pairs)? {
-            break;
-        }
-        bound = behind_last(&pairs)?;
-    }
-    Ok(pairs)
-}
-
-// Puts the pairs that one leaf has behind the bound with the others, of which there are so many at most, and answers whether there may be more.
-fn take_leaf<L: Log>(
-    trees: &mut Trees<L>,
-    tree: Tree,
-    bound: &Bound<IVec>,
-    most: usize,
-    pairs: &mut Vec<(IVec, IVec)>,
-) -> Result<bool, TreeError> {
-    let mut more = trees.range(tree, bound, &Bound::Unbounded)?;
-    let is_end = more.is_empty();
-    pairs.append(&mut more)?;
-    pairs.truncate(most);
-    Ok(!is_end && pairs.len() < most)
-}
-
-// What is behind the last of these keys, or all where there is none.
-fn behind_last(pairs: &[(IVec, IVec)]) -> Result<Bound<IVec>, AllocError> {
-    match pairs.last() {
-        Some((key, _)) => Ok(Bound::Excluded(key.clone()?)),
-        None => Ok(Bound::Unbounded),
+    from: &Bound<IVec>,
+    to: &Bound<IVec>,
+) -> Result<Piece, TreeError> {
+    match trees.get_tree(name)? {
+        Some(tree) => trees.range(tree, from, to),
+        None => Ok(Piece {
+            pairs: Vec::new(alloc),
+            rest: None,
+        }),
     }
 }
