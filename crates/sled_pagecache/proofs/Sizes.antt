@@ -1,7 +1,7 @@
 -- How much of the log the messages of a page take, beside those of its chain.
 use Rattle.sled_pagecache.proofs.Names.{Recency, ◌≡◌, ◌^◌, ◌+◌, ℕ, ℤ, false, Bool, List, [], ◌∷◌, map, Option, None, Some, slice_get, refl, sym, ◌∙◌, ap, arith, same_Some, slice_get-map, option_map, slice_index_or, ◌-◌, sum_by, sum_by-cons, DiskPtr, Chain, Entry, effect_of_entry, said_of, IsSized, Ghosts, chain_size, place_of, IsKept, is_free, IsConsistent, joined_infos, Config, CacheInfo, StickyLog, Kept, Page, sum_by_push, head_size, capped_size, AreSized, size_in, access_size, size_if, node_access_size, joined_size, min, now, AllZip-long, slice_get_within, slice_get-get_or, view, all-at, kept-at}
 
-sum_by-mapped : {A B : Type 0} (f : B → ℕ) (g : A → B) (xs : List A) → sum_by f (map g xs) ≡ sum_by (λ x. f (g x)) xs
+pub sum_by-mapped : {A B : Type 0} (f : B → ℕ) (g : A → B) (xs : List A) → sum_by f (map g xs) ≡ sum_by (λ x. f (g x)) xs
 sum_by-mapped f g [] = refl
 sum_by-mapped f g (x ∷ xs) = sum_by-cons f (g x) (map g xs) ∙ ap (λ n. f (g x) + n) (sum_by-mapped f g xs) ∙ sym (sum_by-cons (λ x. f (g x)) x xs)
 

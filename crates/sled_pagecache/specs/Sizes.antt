@@ -1,7 +1,9 @@
 -- How much the pages of a cache would take, were each kept by its content alone.
-use Rattle.std.specs.Prelude.{◌≡◌, ℕ, ◌+◌, List, Some, slice_get}
+use Rattle.std.specs.Prelude.{◌≡◌, ℕ, ◌+◌, List, Some, slice_get, if◌then◌else◌}
 use Rattle.std.specs.List.{sum_by}
+use Rattle.sled_log.specs.Chains.{is_empty}
 use Rattle.sled_log.specs.Contents.{Content, Free, Counter, Roots, Node, Damaged}
+use Rattle.sled_log.specs.Messages.{Chain, effect_of_entry}
 use Rattle.sled_node.specs.Meta.{roots_size}
 use Rattle.sled_node.specs.Sizes.{node_size}
 
@@ -20,3 +22,10 @@ logical_size segment_size contents = sum_by content_size contents + segment_size
 -- one of the pages is damaged
 abbrev pub HasDamaged : List Content → Type 0
 HasDamaged contents = (pid : ℕ) × (slice_get contents pid ≡ Some Damaged)
+
+-- how much of a log the messages take that make a page; the one that leaves a page free makes none
+abbrev pub chain_live : Chain → ℕ
+chain_live chain = if is_empty effect_of_entry chain then 0 else sum_by (λ entry. entry.place.log_size) chain
+
+abbrev pub live_size : List Chain → ℕ
+live_size chains = sum_by chain_live chains

@@ -74,7 +74,7 @@ module _ {V : Type 0} where
           rw fails (rw fails at rest)
       by rest false is (inr other) = rw (eq-other pair.0 key other) rest
 
-  all-kept : (P : Bytes × V → Type 0) (test : Bytes → Bool) (pairs : List (Bytes × V)) → AllByRecursion P pairs → AllByRecursion P (keep test pairs)
+  pub all-kept : (P : Bytes × V → Type 0) (test : Bytes → Bool) (pairs : List (Bytes × V)) → AllByRecursion P pairs → AllByRecursion P (keep test pairs)
   all-kept P test [] all = tt
   all-kept P test (pair ∷ pairs) all = by (all-kept P test pairs all.1) (test pair.0)
     where
@@ -103,11 +103,11 @@ module _ {V : Type 0} where
       by rest true = rw rest refl
       by rest false = rest
 
-  keep-all : (test : Bytes → Bool) (pairs : List (Bytes × V)) → AllByRecursion (λ pair. test pair.0 ≡ true) pairs → keep test pairs ≡ pairs
+  pub keep-all : (test : Bytes → Bool) (pairs : List (Bytes × V)) → AllByRecursion (λ pair. test pair.0 ≡ true) pairs → keep test pairs ≡ pairs
   keep-all test [] all = refl
   keep-all test (pair ∷ pairs) all = rw (all.0, keep-all test pairs all.1) refl
 
-  keep-none : (test : Bytes → Bool) (pairs : List (Bytes × V)) → AllByRecursion (λ pair. test pair.0 ≡ false) pairs → keep test pairs ≡ []
+  pub keep-none : (test : Bytes → Bool) (pairs : List (Bytes × V)) → AllByRecursion (λ pair. test pair.0 ≡ false) pairs → keep test pairs ≡ []
   keep-none test [] all = refl
   keep-none test (pair ∷ pairs) all = rw all.0 (keep-none test pairs all.1)
 

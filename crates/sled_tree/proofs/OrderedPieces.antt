@@ -1,13 +1,13 @@
 -- The pairs of a leaf are those of the map in its range, and what is within two bounds are those and the ones from its end on.
-use Rattle.std.proofs.Common.{◌≡◌, ◌≢◌, ℕ, zero, suc, ◌+◌, Bool, true, false, cond, List, [], ◌∷◌, ◌++◌, length, take, Option, None, Some, slice_get, refl, sym, ◌∙◌, ap, subst, add-one}
+use Rattle.std.proofs.Common.{◌≡◌, ◌≢◌, ◌≤◌, ℕ, zero, suc, ◌+◌, ◌-◌, Bool, true, false, cond, List, [], ◌∷◌, ◌++◌, length, take, drop, Option, None, Some, slice_get, refl, sym, ◌∙◌, ap, subst, add-one, arith}
 use Rattle.std.specs.List.{AllByRecursion}
 use Rattle.std.specs.Option.{option_map}
 use Rattle.std.specs.Str.{bytes_eq}
 use Rattle.std.specs.declared.ops.Bound.{Bound}
 use Rattle.std.specs.declared.ops.Bound.TheVariants.{Included, Excluded, Unbounded}
-use Rattle.std.proofs.lemmas.List.Elements.{filter-append}
 use Rattle.sled_base.specs.Order.{Bytes, IsBelow, IsAtMost}
 use Rattle.sled_base.specs.OrderLaws.{at_most_trans, below_is_at_most}
+use Rattle.sled_node.specs.Neighbours.{IsBehind, IsBefore, IsCount}
 use Rattle.sled_node.specs.Node.{Item, Value, WholeNode, IsInRange, IsWellFormed}
 use Rattle.sled_node.specs.Pairs.{IsAscending}
 use Rattle.sled_search.specs.Map.{Map, at_key}
@@ -18,10 +18,10 @@ use Rattle.sled_search.proofs.Pairs.{all-weaker, at-lacks}
 use Rattle.sled_search.proofs.Same.{same-pairs}
 use Rattle.sled_search.proofs.Separated.{never-below}
 use Rattle.sled_search.proofs.Splits.{below_at_most}
-use Rattle.sled_tree.proofs.OrderedLists.{keep, at-keep, ascending-kept, keep-same, keep-twice, keep-always, keep-never, cut}
+use Rattle.sled_tree.proofs.OrderedLists.{keep, at-keep, ascending-kept, all-kept, keep-all, keep-none, keep-same, keep-twice, keep-always, keep-never, cut}
 use Rattle.sled_tree.proofs.OrderedNext.{is-behind, behind-is, is-before, before-is}
 use Rattle.sled_tree.specs.Ordered.{is_behind, behind, before, within}
-use Rattle.sled_tree.specs.OrderedLeaves.{as_items, one_of}
+use Rattle.sled_tree.specs.OrderedLeaves.{as_items}
 
 -- ---- pairs as a leaf has them
 
@@ -73,23 +73,80 @@ items-append : (xs ys : Map) → as_items (xs ++ ys) ≡ as_items xs ++ as_items
 items-append [] ys = refl
 items-append (x ∷ xs) ys = rw (items-append xs ys) refl
 
--- one place more of a leaf
-take-one : {X : Type 0} (at : ℕ) (xs : List X) → take (suc at) xs ≡ take at xs ++ one_of (slice_get xs at)
-take-one {X} at [] = by at
-  where
-    by : (at : ℕ) → ◌≡◌ {A = List X} [] (take at [] ++ [])
-    by zero = refl
-    by (suc at) = refl
-take-one zero (x ∷ xs) = refl
-take-one (suc at) (x ∷ xs) = ap (λ ys. x ∷ ys) (take-one at xs)
+-- one place more of a run of pairs
+take-at : {X : Type 0} (at : ℕ) (xs : List X) (x : X) → slice_get xs at ≡ Some x → take (suc at) xs ≡ take at xs ++ x ∷ []
+take-at at [] x e = absurd (let h = e in cc)
+take-at zero (y ∷ xs) x e = let same : y ≡ x = cc in rw same refl
+take-at (suc at) (y ∷ xs) x e = ap (λ ys. y ∷ ys) (take-at at xs x e)
 
-pub place-more : (from to : Bound Bytes) (pairs : List (Bytes × Item)) (at : ℕ) (so_far : Map) (found : Option (Bytes × Bytes)) → as_items so_far ≡ within from to (take at pairs)
-    → as_items (one_of found) ≡ within from to (one_of (slice_get pairs at)) → as_items (so_far ++ one_of found) ≡ within from to (take (at + 1) pairs)
-place-more from to pairs at so_far found front here =
-    items-append so_far (one_of found) ∙ ap (λ (ps : List (Bytes × Item)). ps ++ as_items (one_of found)) front ∙ ap (λ (ps : List (Bytes × Item)). within from to (take at pairs) ++ ps) here
-    ∙ sym (filter-append (λ pair. is_before to pair.0) (behind from (take at pairs)) (behind from (one_of (slice_get pairs at))))
-    ∙ ap (λ (ps : List (Bytes × Item)). before to ps) (sym (filter-append (λ pair. is_behind from pair.0) (take at pairs) (one_of (slice_get pairs at))))
-    ∙ ap (λ (ps : List (Bytes × Item)). within from to ps) (sym (rw add-one (take-one at pairs)))
+run-on : {X : Type 0} (first at : ℕ) (xs : List X) (x : X) → first ≤ at → slice_get xs at ≡ Some x → take (suc at - first) (drop first xs) ≡ take (at - first) (drop first xs) ++ x ∷ []
+run-on zero at xs x le e = let more : suc at - 0 ≡ suc at = omega arith in let here : at - 0 ≡ at = omega arith in rw (more, here) (take-at at xs x e)
+run-on (suc first) zero xs x le e = absurd (omega (arith, le))
+run-on (suc first) (suc at) [] x le e = absurd (let h = e in cc)
+run-on (suc first) (suc at) (y ∷ xs) x le e = let more : suc (suc at) - suc first ≡ suc at - first = omega arith in let here : suc at - suc first ≡ at - first = omega arith in rw (more, here) (run-on first at xs x (omega (arith, le)) e)
+
+pub place-more : (first at : ℕ) (pairs : List (Bytes × Item)) (so_far : Map) (key value : Bytes) → first ≤ at → slice_get pairs at ≡ Some (key, Value value)
+    → as_items so_far ≡ take (at - first) (drop first pairs) → as_items (so_far ++ (key, value) ∷ []) ≡ take (at + 1 - first) (drop first pairs)
+place-more first at pairs so_far key value le e front =
+    items-append so_far ((key, value) ∷ []) ∙ ap (λ (ps : List (Bytes × Item)). ps ++ (key, Value value) ∷ []) front ∙ sym (rw add-one (run-on first at pairs (key, Value value) le e))
+
+-- ---- the places of a leaf that are within two bounds
+
+module _ (from to : Bound Bytes) (key : Bytes) where
+  not-behind : (IsBehind from key → ⊥) → is_behind from key ≡ false
+  not-behind never = by (is_behind from key) refl
+    where
+      by : (b : Bool) → is_behind from key ≡ b → b ≡ false
+      by true is = absurd (never (behind-is from key is))
+      by false is = refl
+
+  not-before : (IsBefore to key → ⊥) → is_before to key ≡ false
+  not-before never = by (is_before to key) refl
+    where
+      by : (b : Bool) → is_before to key ≡ b → b ≡ false
+      by true is = absurd (never (before-is to key is))
+      by false is = refl
+
+module _ {V : Type 0} (from to : Bound Bytes) where
+  all-behind-are : (pairs : List (Bytes × V)) → AllByRecursion (λ pair. IsBehind from pair.0) pairs → behind from pairs ≡ pairs
+  all-behind-are pairs all = keep-all (is_behind from) pairs (all-weaker (λ pair. IsBehind from pair.0) (λ pair. is_behind from pair.0 ≡ true) (λ pair h. is-behind from pair.0 h) pairs all)
+
+  none-before : (pairs : List (Bytes × V)) → AllByRecursion (λ pair. IsBefore to pair.0 → ⊥) pairs → within from to pairs ≡ []
+  none-before pairs all = keep-none (is_before to) (behind from pairs) (all-kept (λ pair. is_before to pair.0 ≡ false) (is_behind from) pairs
+      (all-weaker (λ pair. IsBefore to pair.0 → ⊥) (λ pair. is_before to pair.0 ≡ false) (λ pair never. not-before from to pair.0 never) pairs all))
+
+  before-places : (end : ℕ) (pairs : List (Bytes × V)) → AllByRecursion (λ pair. IsBefore to pair.0) (take end pairs) → AllByRecursion (λ pair. IsBefore to pair.0 → ⊥) (drop end pairs) → before to pairs ≡ take end pairs
+  before-places zero pairs front back = keep-none (is_before to) pairs (all-weaker (λ pair. IsBefore to pair.0 → ⊥) (λ pair. is_before to pair.0 ≡ false) (λ pair never. not-before from to pair.0 never) pairs back)
+  before-places (suc end) [] front back = refl
+  before-places (suc end) (pair ∷ pairs) front back = rw (is-before to pair.0 front.0) (ap (λ (ps : List (Bytes × V)). pair ∷ ps) (before-places end pairs front.1 back))
+
+  places : (first end : ℕ) (pairs : List (Bytes × V)) → first ≤ end
+      → AllByRecursion (λ pair. IsBehind from pair.0 → ⊥) (take first pairs) → AllByRecursion (λ pair. IsBehind from pair.0) (drop first pairs)
+      → AllByRecursion (λ pair. IsBefore to pair.0) (take end pairs) → AllByRecursion (λ pair. IsBefore to pair.0 → ⊥) (drop end pairs)
+      → within from to pairs ≡ take (end - first) (drop first pairs)
+  places zero end pairs le low high front back = let all : end - 0 ≡ end = omega arith in rw all (ap (λ (ps : List (Bytes × V)). before to ps) (all-behind-are pairs high) ∙ before-places end pairs front back)
+  places (suc first) zero pairs le low high front back = absurd (omega (arith, le))
+  places (suc first) (suc end) [] le low high front back = by (suc end - suc first)
+    where
+      by : (n : ℕ) → ◌≡◌ {A = List (Bytes × V)} [] (take n [])
+      by zero = refl
+      by (suc n) = refl
+  places (suc first) (suc end) (pair ∷ pairs) le low high front back = let less : suc end - suc first ≡ end - first = omega arith in rw (not-behind from to pair.0 low.0, less) (places first end pairs (omega (arith, le)) low.1 high front.1 back)
+
+  no-places : (first end : ℕ) (pairs : List (Bytes × V)) → end ≤ first
+      → AllByRecursion (λ pair. IsBehind from pair.0 → ⊥) (take first pairs) → AllByRecursion (λ pair. IsBefore to pair.0 → ⊥) (drop end pairs) → within from to pairs ≡ []
+  no-places first zero pairs le low back = none-before pairs back
+  no-places zero (suc end) pairs le low back = absurd (omega (arith, le))
+  no-places (suc first) (suc end) [] le low back = refl
+  no-places (suc first) (suc end) (pair ∷ pairs) le low back = rw (not-behind from to pair.0 low.0) (no-places first end pairs (omega (arith, le)) low.1 back)
+
+  pub within-places : (pairs : List (Bytes × V)) (first end : ℕ) → IsCount (λ key. IsBehind from key → ⊥) (IsBehind from) pairs first → IsCount (IsBefore to) (λ key. IsBefore to key → ⊥) pairs end
+      → first ≤ end → within from to pairs ≡ take (end - first) (drop first pairs)
+  within-places pairs first end a b le = places first end pairs le a.front a.back b.front b.back
+
+  pub within-none : (pairs : List (Bytes × V)) (first end : ℕ) → IsCount (λ key. IsBehind from key → ⊥) (IsBehind from) pairs first → IsCount (IsBefore to) (λ key. IsBefore to key → ⊥) pairs end
+      → end ≤ first → within from to pairs ≡ []
+  within-none pairs first end a b le = no-places first end pairs le a.front b.back
 
 -- ---- the range of a leaf
 

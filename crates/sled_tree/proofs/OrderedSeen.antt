@@ -1,9 +1,11 @@
 -- What a leaf shows is so of the map that the tree is.
-use Rattle.std.proofs.Common.{◌≡◌, ◌≢◌, ◌⊎◌, inl, inr, ℕ, false, List, [], ◌++◌, None, Some, slice_get, sym, ◌∙◌, ap, subst}
+use Rattle.std.proofs.Common.{◌≡◌, ◌≢◌, ◌⊎◌, inl, inr, ℕ, false, List, [], ◌++◌, Option, None, Some, slice_get, refl, sym, ◌∙◌, ap, subst}
+use Rattle.std.specs.Global.{Vec}
 use Rattle.std.specs.declared.ops.Bound.{Bound}
 use Rattle.std.specs.declared.ops.Bound.TheVariants.{Included, Excluded}
 use Rattle.std.proofs.lemmas.List.{append-nil}
-use Rattle.sled_base.specs.Order.{Bytes}
+use Rattle.sled_base.specs.Order.{Bytes, IsBelow}
+use Rattle.sled_base.specs.OrderLaws.{below_trans}
 use Rattle.sled_log.specs.Contents.{Content, Node}
 use Rattle.sled_node.specs.Neighbours.{IsBefore}
 use Rattle.sled_node.specs.Node.{Item, WholeNode, IsInRange, IsWellFormed}
@@ -16,10 +18,11 @@ use Rattle.sled_search.proofs.Below.{last-here, last-further}
 use Rattle.sled_search.proofs.Changes.{leaf-has}
 use Rattle.sled_search.proofs.Search.{leaf-there, one_node}
 use Rattle.sled_search.proofs.Separated.{never-below}
-use Rattle.sled_tree.specs.Ordered.{within, BeginsWith}
-use Rattle.sled_tree.specs.OrderedLeaves.{as_items, ComesBefore, ShowsAbove, ShowsBelow, IsNearAbove, IsNearBelow, SeesAbove, SeesBelow, ShowsPiece, IsPieceOf}
+use Rattle.sled_tree.specs.Ordered.{within, IsPieceOf}
+use Rattle.sled_tree.specs.OrderedLeaves.{as_items, ComesBefore, ShowsAbove, ShowsBelow, IsNearAbove, IsNearBelow, SeesAbove, SeesBelow, ShowsWithin, IsPartOf}
 use Rattle.sled_tree.specs.declared.neighbours.Near.{Near}
 use Rattle.sled_tree.specs.declared.neighbours.Near.TheVariants.{Pair, Further, Nothing}
+use Rattle.sled_tree.specs.declared.neighbours.pieces.LeafPart.{LeafPart}
 use Rattle.sled_tree.specs.declared.neighbours.pieces.Piece.{Piece}
 use Rattle.sled_tree.proofs.OrderedPieces.{end_of, leaf-pairs, same-items, within-items, piece-ends, piece-goes-on, none-past}
 
@@ -74,47 +77,47 @@ module _ (pages : List Content) (root : ℕ) (m : Map) (tree : IsTreeOf pages ro
   own-pairs = leaf-pairs n m tree.ascending well (λ other range. leaf-has pages root m tree key leaf n there comes other range)
 
 module _ (pages : List Content) (root : ℕ) (m : Map) (tree : IsTreeOf pages root m) (leaf : ℕ) where
-  pub piece-is : (from to : Bound Bytes) → ComesToLeafOf pages (start_of from) (start_of from) leaf root → (piece : Piece) → HasNodeAt pages leaf (ShowsPiece from to piece) → IsPieceOf from to m piece
-  piece-is from to comes piece (n, there, is) = record {
+  pub part-is : (from to : Bound Bytes) → ComesToLeafOf pages (start_of from) (start_of from) leaf root → (part : LeafPart) → HasNodeAt pages leaf (ShowsWithin from to part) → IsPartOf from to m part
+  part-is from to comes part (n, there, is) = record {
     ends = λ none. piece-ends m tree.ascending n.lo n.hi from to range.0 (is.end ∙ none) ∙ sym pairs;
     goes_on = λ some.
-        let some' : n.hi ≢ [] = λ e. some (sym is.end ∙ e) in
-        subst (λ (end : Bytes). within from to m ≡ piece.pairs.items ++ within (Included end) to m) is.end
-        (piece-goes-on m tree.ascending n.lo n.hi from to range.0 some' (range.1 some') ∙ ap (λ (ps : Map). ps ++ within (Included n.hi) to m) (sym pairs));
+        subst (λ (end : Bytes). within from to m ≡ part.pairs.items ++ within (Included end) to m) is.end
+        (piece-goes-on m tree.ascending n.lo n.hi from to range.0 (not-empty some) (range.1 (not-empty some)) ∙ ap (λ (ps : Map). ps ++ within (Included n.hi) to m) (sym pairs));
+    further = λ some. subst (λ (end : Bytes). IsBelow (start_of from) end) is.end (range.1 (not-empty some));
   }
     where
+      not-empty : part.end ≢ [] → n.hi ≢ []
+      not-empty some e = some (sym is.end ∙ e)
+
       range : IsInRange n (start_of from)
       range = (at-leaf pages root m tree (start_of from) leaf comes n there is.well_formed).1
 
-      pairs : piece.pairs.items ≡ within from to (within (Included n.lo) (end_of n.hi) m)
-      pairs = same-items piece.pairs.items (within from to (within (Included n.lo) (end_of n.hi) m))
+      pairs : part.pairs.items ≡ within from to (within (Included n.lo) (end_of n.hi) m)
+      pairs = same-items part.pairs.items (within from to (within (Included n.lo) (end_of n.hi) m))
           (is.pairs ∙ ap (λ (ps : List (Bytes × Item)). within from to ps) (own-pairs pages root m tree (start_of from) leaf comes n there is.well_formed) ∙ within-items from to (within (Included n.lo) (end_of n.hi) m))
 
--- the pairs of a piece, if there are any, or it is the last
-module _ (from to : Bound Bytes) (m : Map) (piece : Piece) (is : IsPieceOf from to m piece) where
-  begins-ends : piece.end ≡ [] → BeginsWith (within from to m) piece.pairs.items
-  begins-ends none = record { rest = []; is = is.ends none ∙ sym (append-nil piece.pairs.items); some = λ e. is.ends none ∙ e }
+abbrev pub piece_of : Vec (Bytes × Bytes) → Option Bytes → Piece
+piece_of pairs rest = record { pairs = pairs; rest = rest }
 
-  pub begins-some : piece.pairs.items ≢ [] → BeginsWith (within from to m) piece.pairs.items
-  begins-some some = by (empty-or-not piece.end)
+-- what a leaf has is a piece, where it has any or is the last, and else the part of the next leaf is
+module _ (from to : Bound Bytes) (m : Map) (part : LeafPart) (is : IsPartOf from to m part) where
+  -- nothing before the bound is from its end on
+  pub last-piece : (part.end ≡ []) ⊎ (is_before to part.end ≡ false) → IsPieceOf from to m (piece_of part.pairs None)
+  last-piece last = record { pairs = all last ∙ sym (append-nil part.pairs.items); some = λ _. refl; further = tt }
     where
-      by : (piece.end ≡ []) ⊎ (piece.end ≢ []) → BeginsWith (within from to m) piece.pairs.items
-      by (inl none) = begins-ends none
-      by (inr more) = record { rest = within (Included piece.end) to m; is = is.goes_on more; some = λ e. absurd (some e) }
+      by : is_before to part.end ≡ false → (part.end ≡ []) ⊎ (part.end ≢ []) → within from to m ≡ part.pairs.items
+      by past (inl none) = is.ends none
+      by past (inr more) = is.goes_on more ∙ ap (λ (ps : Map). part.pairs.items ++ ps) (none-past part.end to m past) ∙ append-nil part.pairs.items
 
-  pub begins-past : (piece.end ≡ []) ⊎ (is_before to piece.end ≡ false) → BeginsWith (within from to m) piece.pairs.items
-  begins-past (inl none) = begins-ends none
-  begins-past (inr past) = by (empty-or-not piece.end)
-    where
-      by : (piece.end ≡ []) ⊎ (piece.end ≢ []) → BeginsWith (within from to m) piece.pairs.items
-      by (inl none) = begins-ends none
-      by (inr more) =
-          let all : within from to m ≡ piece.pairs.items = is.goes_on more ∙ ap (λ (ps : Map). piece.pairs.items ++ ps) (none-past piece.end to m past) ∙ append-nil piece.pairs.items in
-          record { rest = []; is = all ∙ sym (append-nil piece.pairs.items); some = λ e. all ∙ e }
+      all : (part.end ≡ []) ⊎ (is_before to part.end ≡ false) → within from to m ≡ part.pairs.items
+      all (inl none) = is.ends none
+      all (inr past) = by past (empty-or-not part.end)
 
-  -- where it has none, those of the next piece
-  pub piece-further : piece.pairs.items ≡ [] → piece.end ≢ [] → (next : Piece) → IsPieceOf (Included piece.end) to m next → IsPieceOf from to m next
-  piece-further none more next then = record { ends = λ e. same ∙ then.ends e; goes_on = λ e. same ∙ then.goes_on e }
+  pub some-piece : part.pairs.items ≢ [] → part.end ≢ [] → IsPieceOf from to m (piece_of part.pairs (Some part.end))
+  some-piece some more = record { pairs = is.goes_on more; some = λ none. absurd (some none); further = is.further more }
+
+  pub part-further : part.pairs.items ≡ [] → part.end ≢ [] → (next : LeafPart) → IsPartOf (Included part.end) to m next → IsPartOf from to m next
+  part-further none more next then = record { ends = λ e. same ∙ then.ends e; goes_on = λ e. same ∙ then.goes_on e; further = λ e. below_trans (start_of from) part.end next.end (is.further more) (then.further e) }
     where
-      same : within from to m ≡ within (Included piece.end) to m
-      same = is.goes_on more ∙ ap (λ (ps : Map). ps ++ within (Included piece.end) to m) none
+      same : within from to m ≡ within (Included part.end) to m
+      same = is.goes_on more ∙ ap (λ (ps : Map). ps ++ within (Included part.end) to m) none

@@ -2,6 +2,7 @@ pub mod Calls
 pub mod Changed
 pub mod Dropping
 pub mod Errors
+pub mod Lending
 pub mod Limits
 pub mod Maps
 pub mod Merging

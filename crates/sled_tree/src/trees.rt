@@ -1,6 +1,8 @@
 //! The maps, and their calls.
 
 ghost use Rattle.std.specs.Prelude.{◌≡◌, ◌-◌, ◌^◌};
+ghost use Rattle.std.specs.Borrow.{sem};
+ghost use Rattle.sled_tree.specs.Lending.{LendsCache};
 ghost use Rattle.sled_tree.specs.Limits.{nearest};
 
 mod batches;
@@ -144,8 +146,8 @@ impl<L: Log> Trees<L> {
 
     /// The cache, for calls of its own. A page of a map that they change, free or move to another number is that map's no more.
     pub fn cache_mut(&mut self) -> &mut PageCache<L>
-        ensures old { result.old ≡ self.old }
-        ensures new { self.new ≡ result.new }
+        ensures* lends { sem 𝓛 (LendsCache L.row L.Log self.entry result) }
+        ensures value { result.now ≡ self.old }
     {
         &mut self.cache
     }

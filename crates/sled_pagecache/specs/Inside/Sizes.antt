@@ -8,11 +8,12 @@ use Rattle.sled_log.specs.LogState.{now}
 use Rattle.sled_log.specs.Messages.{Chain, messages_of, effect_of_entry}
 use Rattle.sled_log.specs.Reading.{Makes}
 use Rattle.sled_log.specs.declared.log.Log.{Ghosts}
-use Rattle.sled_pagecache.specs.Inside.PageEntry.{is_resident}
+use Rattle.sled_pagecache.specs.Inside.PageEntry.{is_resident, size_in}
 use Rattle.sled_pagecache.specs.Inside.PageIn.{RefusesPull}
 use Rattle.sled_pagecache.specs.Inside.StickyLog.{IsCaused, Went}
 use Rattle.sled_pagecache.specs.Memory.{HasRead}
 use Rattle.sled_pagecache.specs.Sizes.{content_size}
+use Rattle.sled_pagecache.specs.Table.{is_free}
 use Rattle.sled_pagecache.specs.declared.pagecache.table.page.Kept.TheVariants as kept
 use Rattle.sled_pagecache.specs.declared.pagecache.table.page.Page.{Page}
 use Rattle.sled_pagecache.specs.declared.pagecache.write.sticky_log.StickyLog.{StickyLog}
@@ -51,3 +52,7 @@ RefusesAway chain page refusal = (page.kept ≡ kept.Away) × (is_empty effect_o
 -- the same of one of the pages
 abbrev pub RefusesSome : (ℕ → Chain) → List Page → Refusal → Type 0
 RefusesSome chain_at pages refusal = (pid : ℕ) × (page : Page) × (slice_get pages pid ≡ Some page) × RefusesAway (chain_at pid) page refusal
+
+-- how much of the log the messages of a page take; a free one has none that counts
+abbrev pub page_live : Page → ℕ
+page_live page = if is_free page.kept then 0 else size_in page.infos.items

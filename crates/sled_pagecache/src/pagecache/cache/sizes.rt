@@ -1,6 +1,6 @@
 //! How much a cache takes on its disk, beside what its pages would take.
 
-ghost use Rattle.std.specs.Prelude.{◌≡◌, false, IfOk, IfErr};
+ghost use Rattle.std.specs.Prelude.{◌≡◌, ◌-◌, ◌^◌, false, min, IfOk, IfErr};
 ghost use Rattle.sled_log.specs.LogState.{now};
 ghost use Rattle.sled_log.specs.Messages.{effect_of_entry};
 ghost use Rattle.sled_pagecache.specs.Answers.{HasNoName, Keeps};
@@ -8,11 +8,12 @@ ghost use Rattle.sled_pagecache.specs.Cache.{chain_at};
 ghost use Rattle.sled_pagecache.specs.Calls.{Steps, IsBlamed};
 ghost use Rattle.sled_pagecache.specs.Damage.{ReportsSomeWrong};
 ghost use Rattle.sled_pagecache.specs.Memory.{HasRead, IsBounded, KeepsMemory, messages_away};
+ghost use Rattle.sled_pagecache.specs.Sizes.{live_size};
 ghost use Rattle.sled_pagecache.specs.declared.pagecache.handles.call.Answer.TheVariants.{Amplified};
 ghost use Rattle.sled_pagecache.specs.declared.pagecache.handles.call.Call.TheVariants.{SpaceAmplification};
 
 use super::PageCache;
-use crate::pagecache::memory::sizes::total_rss;
+use crate::pagecache::memory::sizes::{live_size, total_rss};
 use sled_base::{Device, Error};
 use sled_log::Log;
 
@@ -44,5 +45,16 @@ impl<L: Log> PageCache<L> {
         let on_disk = self.sticky_log.log.size();
         let pages = total_rss(self.alloc, &mut self.sticky_log, &self.pages)?;
         Ok((on_disk, pages + self.config.segment_size as u128))
+    }
+
+    /// How many bytes of the log the messages take that make the pages, which is about what a rewriting leaves. `u64::MAX` stands for that
+    /// and for more.
+    ///
+    /// It looks at the table of pages, reads nothing, and allocates nothing.
+    pub fn live_bytes(&self) -> u64
+        ensures live { L.tells → self.now.fault ≡ false
+            → result ≡ min (live_size (now effect_of_entry (L.state self.now.log))) (2 ^ 64 - 1) }
+    {
+        live_size(&self.pages)
     }
 }

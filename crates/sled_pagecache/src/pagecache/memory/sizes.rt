@@ -1,15 +1,15 @@
 //! How much the pages of a table would take, were each kept by its content alone.
 
-ghost use Rattle.std.specs.Prelude.{◌≡◌, ◌≤◌, ◌*◌, ◌^◌, false, true, length, IfOk, IfErr};
+ghost use Rattle.std.specs.Prelude.{◌≡◌, ◌≤◌, ◌*◌, ◌-◌, ◌^◌, false, true, length, min, IfOk, IfErr};
 ghost use Rattle.std.specs.List.{AllZip, sum_by};
 ghost use Rattle.sled_log.specs.LogState.{now};
 ghost use Rattle.sled_log.specs.Messages.{effect_of_entry};
 ghost use Rattle.sled_pagecache.specs.Cache.{chain_at};
 ghost use Rattle.sled_pagecache.specs.Inside.PageEntry.{IsKept};
-ghost use Rattle.sled_pagecache.specs.Inside.Sizes.{IsSizeOf, Weighs, ReadsLog, RefusesAway, RefusesSome, messages_to_read};
+ghost use Rattle.sled_pagecache.specs.Inside.Sizes.{IsSizeOf, Weighs, ReadsLog, RefusesAway, RefusesSome, messages_to_read, page_live};
 
 use crate::pagecache::memory::chain::read_node;
-use crate::pagecache::table::page::{Kept, Page};
+use crate::pagecache::table::page::{Kept, Page, total_size};
 use crate::pagecache::table::pagetable::PageTable;
 use crate::pagecache::write::sticky_log::StickyLog;
 use sled_base::{PageId, Refusal};
@@ -69,5 +69,29 @@ fn page_rss<L: Log>(
         Kept::Counter(_) => Ok(COUNTER_BYTES),
         Kept::Roots(roots) => Ok(roots.as_meta().rss()),
         Kept::Node(node) => Ok(node.rss(alloc)),
+    }
+}
+
+// How much of the log the messages take that make the pages, in bytes, or `u64::MAX` where it is no less.
+pub(crate) fn live_size(pages: &PageTable) -> u64
+    ensures { result ≡ min (sum_by page_live pages.now.pages) (2 ^ 64 - 1) }
+{
+    let mut total: u64 = 0;
+    for pid in 0..pages.len() {
+        let Some(page) = pages.get(pid as PageId) else {
+            unreachable!()
+        };
+        total = total.saturating_add(page_live(page));
+    }
+    total
+}
+
+// How much of the log the messages of a page take, or nothing of a free one.
+fn page_live(page: &Page) -> u64
+    ensures { result ≡ min (page_live page.now) (2 ^ 64 - 1) }
+{
+    match page.kept {
+        Kept::Free => 0,
+        _ => total_size(page.cache_infos()),
     }
 }

@@ -4,7 +4,7 @@ use Rattle.sled_search.specs.Map.{Map}
 use Rattle.sled_search.specs.Search.{IsTreeOf}
 use Rattle.sled_tree.specs.Changed.{Reads}
 use Rattle.sled_tree.specs.Maps.{root_of}
-use Rattle.sled_tree.specs.Ordered.{within, BeginsWith}
+use Rattle.sled_tree.specs.Ordered.{IsPieceOf}
 use Rattle.sled_tree.specs.Performs.{Performs}
 use Rattle.sled_tree.specs.declared.error.TreeError.{TreeError}
 use Rattle.sled_tree.proofs.Performing.{reads-ok, reads-so}
@@ -15,9 +15,9 @@ returns-clause-pairs g c =
     let from = c.args.from.now in
     let to = c.args.to.now in
     let root = root_of c.args.tree in
-    let pairs = c.in_ok-pairs_within.field-0 in
+    let piece = c.in_ok-pairs_within.field-0 in
     let old = c.self.inside.cache in
     let new = c.pairs_within.new.cache in
-    subst (λ (cache : Cache g.row.L.Denot). Performs g.L.Log (Reads {E = TreeError} (Ok pairs) (λ pages pairs. (m : Map) → IsTreeOf pages root m → BeginsWith (within from to m) pairs.items)) cache new) c.self.view_is
-    (reads-ok g.L.Log (λ pages pairs. (m : Map) → IsTreeOf pages root m → BeginsWith (within from to m) pairs.items) old new pairs
-    (reads-so g.L.Log (λ pages pairs. (m : Map) → IsTreeOf pages root m → BeginsWith (within from to m) pairs.items) old new pairs c.in_ok-pairs_within.ensures))
+    subst (λ (cache : Cache g.row.L.Denot). Performs g.L.Log (Reads {E = TreeError} (Ok piece) (λ pages piece. (m : Map) → IsTreeOf pages root m → IsPieceOf from to m piece)) cache new) c.self.view_is
+    (reads-ok g.L.Log (λ pages piece. (m : Map) → IsTreeOf pages root m → IsPieceOf from to m piece) old new piece
+    (reads-so g.L.Log (λ pages piece. (m : Map) → IsTreeOf pages root m → IsPieceOf from to m piece) old new piece c.in_ok-pairs_within.ensures))
