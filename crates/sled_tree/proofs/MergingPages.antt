@@ -27,7 +27,7 @@ use Rattle.sled_search.proofs.Together.{with-here}
 use Rattle.sled_tree.specs.Changed.{Reads}
 use Rattle.sled_tree.specs.Dropping.{AreLoose}
 use Rattle.sled_tree.specs.Maps.{ChangesMap, Follows, Keeps, Stays, TakesKey, Turns}
-use Rattle.sled_tree.specs.Merging.{AreJoined, HasPlan, IsJoined, IsParted, IsPlanned}
+use Rattle.sled_tree.specs.Merging.{AreJoined, HasPlan, IsParted, IsPlanned}
 use Rattle.sled_tree.specs.Named.{Named, AreNamed, with_map_at}
 use Rattle.sled_tree.specs.Performs.{Performs}
 use Rattle.sled_tree.specs.Splits.{Puts}

@@ -1,6 +1,5 @@
 -- The calls of maps by name, each with its answer: what it needs of the names and maps, and what it makes of them.
 use Rattle.std.specs.Prelude.{◌≡◌, ◌≢◌, ◌⊎◌, ◌↔◌, ℕ, Bool, true, IsTrue, List, [], length, Option, Some, None, Result, Ok, Err, IfOk, ⊤}
-use Rattle.std.specs.Global.{Vec}
 use Rattle.std.specs.Option.{is_some}
 use Rattle.std.specs.declared.ops.Bound.{Bound}
 use Rattle.sled_base.specs.Order.{Bytes}
@@ -19,7 +18,8 @@ use Rattle.sled_tree.specs.Maps.{root_of, with_swapped}
 use Rattle.sled_tree.specs.Named.{Named, with_map_at, with_new}
 use Rattle.sled_tree.specs.Names.{IsFree}
 use Rattle.sled_tree.specs.Openings.{Deed, Ending, CrashedIn, IsDone}
-use Rattle.sled_tree.specs.Ordered.{behind, before, within, first_of, last_of, BeginsWith}
+use Rattle.sled_tree.specs.Ordered.{behind, before, first_of, last_of, IsPieceOf}
+use Rattle.sled_tree.specs.declared.neighbours.pieces.Piece.{Piece}
 use Rattle.sled_tree.specs.Performs.{Performs}
 use Rattle.sled_tree.specs.declared.error.TreeError.{TreeError}
 use Rattle.sled_tree.specs.declared.trees.Tree.{Tree}
@@ -33,7 +33,7 @@ pub data MapCall : Type 0 where
   GotLast : (root : ℕ) (result : Result (Option (Bytes × Bytes)) TreeError) → MapCall
   GotAbove : (root : ℕ) (bound : Bound Bytes) (result : Result (Option (Bytes × Bytes)) TreeError) → MapCall
   GotBelow : (root : ℕ) (bound : Bound Bytes) (result : Result (Option (Bytes × Bytes)) TreeError) → MapCall
-  GotRange : (root : ℕ) (from to : Bound Bytes) (result : Result (Vec (Bytes × Bytes)) TreeError) → MapCall
+  GotRange : (root : ℕ) (from to : Bound Bytes) (result : Result Piece TreeError) → MapCall
   Counted : (root : ℕ) (result : Result ℕ TreeError) → MapCall
   FoundEmpty : (root : ℕ) (result : Result Bool TreeError) → MapCall
   Inserted : (root : ℕ) (key value : Bytes) (result : Result (Option Bytes) TreeError) → MapCall
@@ -84,7 +84,7 @@ Does (GotFirst root result) fault old new = Answers old new root result (λ m pa
 Does (GotLast root result) fault old new = Answers old new root result (λ m pair. pair ≡ last_of m)
 Does (GotAbove root bound result) fault old new = Answers old new root result (λ m pair. pair ≡ first_of (behind bound m))
 Does (GotBelow root bound result) fault old new = Answers old new root result (λ m pair. pair ≡ last_of (before bound m))
-Does (GotRange root from to result) fault old new = Answers old new root result (λ m pairs. BeginsWith (within from to m) pairs.items)
+Does (GotRange root from to result) fault old new = Answers old new root result (λ m piece. IsPieceOf from to m piece)
 Does (Counted root result) fault old new = Answers old new root result (λ m count. count ≡ length m)
 Does (FoundEmpty root result) fault old new = Answers old new root result (λ m none. IsTrue none ↔ (m ≡ []))
 Does (Inserted root key value (Ok before)) fault old new = HasMap old root (λ m. (before ≡ at_key m key) × (new ≡ with_map_at root (set_pair key value m) old))

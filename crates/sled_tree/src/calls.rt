@@ -1,7 +1,6 @@
 //! The calls of maps by name, and that each keeps the word that the law over openings asks of it.
 
 ghost use Rattle.std.specs.Prelude.{◌≡◌, ◌↔◌, ℕ, Bool, true, IsTrue, List, [], ◌∷◌, length, Option, Some, Result, Ok};
-ghost use Rattle.std.specs.Global.{Vec};
 ghost use Rattle.std.specs.Option.{is_some};
 ghost use Rattle.std.specs.declared.ops.Bound.{Bound};
 ghost use Rattle.sled_base.specs.Order.{Bytes};
@@ -17,7 +16,8 @@ ghost use Rattle.sled_tree.specs.Changed.{LeavesPages, Reads};
 ghost use Rattle.sled_tree.specs.Maps.{ChangesMap, KeepsMaps, SetsKey, SwapsKey, TakesKey, root_of};
 ghost use Rattle.sled_tree.specs.Names.{OpensMap};
 ghost use Rattle.sled_tree.specs.Openings.{Ending, Opening, Lasted};
-ghost use Rattle.sled_tree.specs.Ordered.{behind, before, within, first_of, last_of, BeginsWith};
+ghost use Rattle.sled_tree.specs.Ordered.{behind, before, first_of, last_of, IsPieceOf};
+ghost use Rattle.sled_tree.specs.declared.neighbours.pieces.Piece.{Piece};
 ghost use Rattle.sled_tree.specs.Prefixes.{History, flushes, named_by_now, ShowMaps};
 ghost use Rattle.sled_tree.specs.declared.error.TreeError.{TreeError};
 ghost use Rattle.sled_tree.specs.declared.trees.Tree.{Tree};
@@ -52,9 +52,9 @@ pub fn each_call_keeps_its_word<L: Log>()
         → IsWordOf L.Log (Reads result (λ pages pair. (m : Map) → IsTreeOf pages root m
         → pair ≡ last_of (before bound m))) (GotBelow root bound result) }
     ensures range { (root : ℕ) (from to : Bound Bytes)
-        (result : Result (Vec (Bytes × Bytes)) TreeError)
-        → IsWordOf L.Log (Reads result (λ pages pairs. (m : Map) → IsTreeOf pages root m
-        → BeginsWith (within from to m) pairs.items)) (GotRange root from to result) }
+        (result : Result Piece TreeError)
+        → IsWordOf L.Log (Reads result (λ pages piece. (m : Map) → IsTreeOf pages root m
+        → IsPieceOf from to m piece)) (GotRange root from to result) }
     ensures len { (root : ℕ) (result : Result ℕ TreeError)
         → IsWordOf L.Log (Reads result (λ pages count. (m : Map) → IsTreeOf pages root m
         → count ≡ length m)) (Counted root result) }

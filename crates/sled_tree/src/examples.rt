@@ -1,9 +1,9 @@
 //! Worked examples of the definitions: pairs next to a bound and within two.
 
-ghost use Rattle.std.specs.Prelude.{◌≡◌, [], ◌∷◌, take, drop, Some, None};
+ghost use Rattle.std.specs.Prelude.{◌≡◌, [], ◌∷◌, Some, None};
 ghost use Rattle.std.specs.declared.ops.Bound.TheVariants.{Included, Excluded, Unbounded};
 ghost use Rattle.sled_search.specs.Examples.{one, three_pairs};
-ghost use Rattle.sled_tree.specs.Ordered.{behind, before, within, first_of, last_of, BeginsWith};
+ghost use Rattle.sled_tree.specs.Ordered.{behind, before, within, first_of, last_of, from_on};
 
 /// Of pairs at 1, 3 and 5 those on either side of a bound, and those within two. An included key is on both sides of its bound.
 pub fn pairs_on_a_side_of_a_bound()
@@ -20,10 +20,12 @@ pub fn pairs_on_a_side_of_a_bound()
     ensures crossed { within (Excluded (one 5)) (Included (one 1)) three_pairs ≡ [] }
 {}
 
-/// Three pairs begin with the first of them, and with all, but neither with none nor with the others.
-pub fn pairs_that_others_begin_with()
-    ensures one { BeginsWith three_pairs (take 1 three_pairs) }
-    ensures all { BeginsWith three_pairs three_pairs }
-    ensures none { BeginsWith three_pairs [] → ⊥ }
-    ensures others { BeginsWith three_pairs (drop 1 three_pairs) → ⊥ }
+/// Of pairs at 1, 3 and 5 those from a key on and before a bound. Without a key there are none.
+pub fn pairs_from_a_key_on()
+    ensures key { from_on (Some (one 3)) Unbounded three_pairs
+        ≡ (one 3, one 30) ∷ (one 5, one 50) ∷ [] }
+    ensures between { from_on (Some (one 2)) (Excluded (one 5)) three_pairs
+        ≡ (one 3, one 30) ∷ [] }
+    ensures end { from_on (Some (one 6)) Unbounded three_pairs ≡ [] }
+    ensures none { from_on None Unbounded three_pairs ≡ [] }
 {}

@@ -6,7 +6,7 @@ use Rattle.sled_tree.specs.Calls.{Opened, Got, Contained, GotFirst, GotLast, Got
 use Rattle.sled_tree.specs.Changed.{LeavesPages}
 use Rattle.sled_tree.specs.Maps.{ChangesMap, KeepsMaps, SetsKey, SwapsKey, TakesKey, root_of}
 use Rattle.sled_tree.specs.Names.{OpensMap}
-use Rattle.sled_tree.specs.Ordered.{behind, before, within, first_of, last_of, BeginsWith}
+use Rattle.sled_tree.specs.Ordered.{behind, before, first_of, last_of, IsPieceOf}
 use Rattle.sled_tree.proofs.CallsWords.{word-of, opened-word, read-word, inserted-word, removed-word, swapped-word, generated-word, flushed-word, pinned-word, sealed-word, cancelled-word}
 use Rattle.sled_tree.proofs.calls.each_call_keeps_its_word.Goals as goal
 
@@ -32,7 +32,7 @@ pub returns-clause-next_below : goal.returns-clause-next_below
 returns-clause-next_below g c = λ root bound result. read-word g.L.Log result root (λ m pair. pair ≡ last_of (before bound m)) (GotBelow root bound result) (λ w has. has) (λ fault old so. (refl, so))
 
 pub returns-clause-range : goal.returns-clause-range
-returns-clause-range g c = λ root from to result. read-word g.L.Log result root (λ m pairs. BeginsWith (within from to m) pairs.items) (GotRange root from to result) (λ w has. has) (λ fault old so. (refl, so))
+returns-clause-range g c = λ root from to result. read-word g.L.Log result root (λ m piece. IsPieceOf from to m piece) (GotRange root from to result) (λ w has. has) (λ fault old so. (refl, so))
 
 pub returns-clause-len : goal.returns-clause-len
 returns-clause-len g c = λ root result. read-word g.L.Log result root (λ m count. count ≡ length m) (Counted root result) (λ w has. has) (λ fault old so. (refl, so))

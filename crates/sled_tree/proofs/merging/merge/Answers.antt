@@ -1,4 +1,4 @@
-use Rattle.std.proofs.Common.{◌≡◌, Ok, Some, Option}
+use Rattle.std.proofs.Common.{Ok, Some, Option}
 use Rattle.std.specs.Prelude.{IfSome}
 use Rattle.sled_base.specs.declared.types.Error.{Error}
 use Rattle.sled_tree.specs.Changed.{Reads}
@@ -7,8 +7,8 @@ use Rattle.sled_tree.specs.Merging.{HasPlan, IsPlanned}
 use Rattle.sled_tree.specs.Performs.{Performs}
 use Rattle.sled_tree.specs.Walks.{HasRoot}
 use Rattle.sled_tree.specs.declared.merging.plan.Plan.{Plan}
-use Rattle.sled_tree.proofs.Keeping.{keeps-quiet, on-deed}
-use Rattle.sled_tree.proofs.Performing.{nothing, on-any, reads-quiet, reads-so}
+use Rattle.sled_tree.proofs.Keeping.{on-deed}
+use Rattle.sled_tree.proofs.Performing.{reads-so}
 use Rattle.sled_tree.proofs.merging.merge.Goals as goal
 
 pub returns-in_err-carry_out-in-Some-2 : goal.returns-in_err-carry_out-in-Some-2

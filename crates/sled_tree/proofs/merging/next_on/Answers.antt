@@ -1,5 +1,3 @@
-use Rattle.std.proofs.Common.{Bool}
-use Rattle.std.specs.Prelude.{⊤}
 use Rattle.sled_search.specs.Maps.{HasTree}
 use Rattle.sled_search.specs.Routes.{Routes}
 use Rattle.sled_search.specs.Search.{HasNodeAt}

@@ -1,6 +1,5 @@
-use Rattle.std.proofs.Common.{◌≡◌, ◌⊎◌, Bool, true, false, Ok, List, ℕ, sym, subst}
+use Rattle.std.proofs.Common.{◌≡◌, ◌⊎◌, Bool, true, false, ℕ, sym, subst}
 use Rattle.std.proofs.lemmas.Bool.{false≢true}
-use Rattle.sled_log.specs.Contents.{Content}
 use Rattle.sled_search.specs.Routes.{Routes}
 use Rattle.sled_search.specs.Search.{HasNodeAt, LeadsTo}
 use Rattle.sled_search.specs.declared.turns.Turn.{Turn}

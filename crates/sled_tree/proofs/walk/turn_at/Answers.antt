@@ -1,5 +1,4 @@
-use Rattle.std.proofs.Common.{Ok, Some, subst}
-use Rattle.sled_node.specs.Node.{WholeNode}
+use Rattle.std.proofs.Common.{Ok, Some}
 use Rattle.sled_pagecache.specs.Lending.{IsGot}
 use Rattle.sled_search.specs.Routes.{Routes}
 use Rattle.sled_search.specs.Search.{HasNodeAt}

@@ -1,11 +1,8 @@
-use Rattle.std.proofs.Common.{Ok, List, [], ◌∷◌, subst}
+use Rattle.std.proofs.Common.{Ok, [], ◌∷◌}
 use Rattle.sled_base.specs.declared.types.Error.{Error}
-use Rattle.sled_pagecache.specs.Cache.{Cache}
-use Rattle.sled_pagecache.specs.State.{Token}
 use Rattle.sled_tree.specs.Dropping.{AreLoose}
 use Rattle.sled_tree.specs.Maps.{Keeps}
 use Rattle.sled_tree.specs.Merging.{HasPlan}
-use Rattle.sled_tree.specs.Performs.{Performs}
 use Rattle.sled_tree.specs.Splits.{Puts}
 use Rattle.sled_tree.proofs.Keeping.{Kept, kept-last, kept-then}
 use Rattle.sled_tree.proofs.MergingPages.{HasBeside, index-keeps, index-made, joined-keeps, joined-made}

@@ -1,4 +1,4 @@
-use Rattle.std.proofs.Common.{◌≡◌, ℕ, List, Option, None, Some, slice_get}
+use Rattle.std.proofs.Common.{◌≡◌, List, Option, None, Some, slice_get}
 use Rattle.std.specs.Prelude.{IfSome}
 use Rattle.sled_log.specs.Contents.{Content, Node}
 use Rattle.sled_node.specs.Node.{WholeNode}

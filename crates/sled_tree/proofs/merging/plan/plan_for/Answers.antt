@@ -1,4 +1,4 @@
-use Rattle.std.proofs.Common.{◌≡◌, List, Ok, Option, None, Some, Bool, true, refl}
+use Rattle.std.proofs.Common.{◌≡◌, List, Ok, Option, Some, Bool, true, refl}
 use Rattle.std.specs.Prelude.{IfSome}
 use Rattle.sled_base.specs.declared.types.Error.{Error}
 use Rattle.sled_log.specs.Contents.{Content}
@@ -11,7 +11,7 @@ use Rattle.sled_tree.specs.declared.merging.plan.Joined.{Joined}
 use Rattle.sled_tree.specs.declared.merging.plan.Parted.{Parted}
 use Rattle.sled_tree.specs.declared.merging.plan.Plan.{Plan}
 use Rattle.sled_tree.proofs.MergingPages.{planned, reads-failed, reads-none}
-use Rattle.sled_tree.proofs.Performing.{On, on-then, reads-ok, reads-so}
+use Rattle.sled_tree.proofs.Performing.{on-then, reads-ok, reads-so}
 use Rattle.sled_tree.proofs.merging.plan.plan_for.Goals as goal
 
 -- both are so at one time
