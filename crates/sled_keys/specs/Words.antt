@@ -1,5 +1,5 @@
 -- How byte strings are spelled as words of a line.
-use Rattle.std.specs.Prelude.{ℕ, ◌/◌, ◌%◌, Bool, not, ◌&&◌, List, [], ◌∷◌, flat_map, nat_eq, nat_lt, if◌then◌else◌}
+use Rattle.std.specs.Prelude.{ℕ, ◌/◌, ◌%◌, Bool, not, ◌&&◌, [], ◌∷◌, flat_map, nat_eq, nat_lt, if◌then◌else◌}
 use Rattle.sled_base.specs.Order.{Bytes}
 use Rattle.sled_lines.specs.Words.{hex_digit}
 

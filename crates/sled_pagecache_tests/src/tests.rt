@@ -18,6 +18,7 @@ mod hostile;
 mod id_law;
 mod ids;
 mod listed;
+mod live;
 mod many_names;
 mod memory;
 mod moved_blobs;
