@@ -8,11 +8,15 @@ mod handles;
 mod listed;
 mod lists;
 mod merged;
+mod moving;
 mod names;
 mod ordered;
 mod over_disk;
 mod pairs;
+mod pieces;
 mod random;
+mod reached;
+mod sizes;
 mod steps;
 mod swaps;
 mod tokens;
@@ -20,7 +24,7 @@ mod tokens;
 use sled_node::Item;
 use sled_tree::{
     Config, Device, Disk, DiskLog, Error, IVec, Limits, Log, MemDisk, MemLog, PageCache, PageId,
-    Tree, TreeError, Trees, Why,
+    Piece, Tree, TreeError, Trees, Why,
 };
 use std::alloc::{AllocError, Global};
 use std::collections::BTreeMap;

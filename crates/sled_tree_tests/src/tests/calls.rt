@@ -27,7 +27,8 @@ const KEY_BYTES: [&[u8]; KEYS] = [
 
 const NONE: &[u8] = b"";
 
-fn name_of(map: usize) -> &'static [u8] {
+/// The name of a map.
+pub(super) fn name_of(map: usize) -> &'static [u8] {
     NAMES.get(map).copied().unwrap_or(NONE)
 }
 
@@ -226,30 +227,4 @@ fn empties<L: Log>(alloc: Global, trees: &mut Trees<L>, map: usize) -> bool {
         }
     }
     true
-}
-
-// ---- their pages
-
-fn first_child<L: Log>(cache: &mut PageCache<L>, page: PageId) -> Option<PageId> {
-    match cache.get(page) {
-        Ok(Some(view)) if view.node().len() > 0 => match view.node().pair(0).1 {
-            Item::Child(child) => Some(child),
-            _ => None,
-        },
-        _ => None,
-    }
-}
-
-/// How many pages are above each other on the way to a map's first key.
-pub(super) fn levels<L: Log>(cache: &mut PageCache<L>, map: usize) -> usize {
-    let Ok(mut page) = cache.meta_pid_for_name(name_of(map)) else {
-        return 0;
-    };
-    for above in 0..9 {
-        let Some(child) = first_child(cache, page) else {
-            return above + 1;
-        };
-        page = child;
-    }
-    0
 }

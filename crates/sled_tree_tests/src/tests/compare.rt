@@ -82,8 +82,6 @@ const LISTS: &[List] = &[
         seed: 3,
         space: 1000,
         removes: 0,
-        pairs: 3,
-        children: 3,
         ..LIST
     },
     List {
@@ -134,7 +132,6 @@ const LISTS: &[List] = &[
         seed: 13,
         shape: BYTES,
         space: 256,
-        pairs: 3,
         ..LIST
     },
     List {
@@ -142,7 +139,6 @@ const LISTS: &[List] = &[
         shape: LONG,
         order: Order::Rising,
         removes: 8,
-        pairs: 3,
         is_small: true,
         ..LIST
     },
@@ -155,15 +151,11 @@ const LISTS: &[List] = &[
     List {
         seed: 11,
         order: Order::Rising,
-        pairs: 3,
-        children: 3,
         ..LIST
     },
     List {
         seed: 12,
         order: Order::Falling,
-        pairs: 3,
-        children: 3,
         is_small: true,
         ..LIST
     },

@@ -1,7 +1,8 @@
 // Every fault, one at a time, over a list of calls on maps on a disk: each read, each write and sync, and a crash before each of these.
 
-use super::calls::{answer, answer_of, goes_on, is_plain, levels, outcome_of};
+use super::calls::{answer, answer_of, goes_on, is_plain, name_of, outcome_of};
 use super::listed::{Call, LIST, NEW, Opening, Outcome, Plain, behind, make, wanted};
+use super::reached::{Reached, pages_of};
 use super::*;
 use sled_pagecache::crashes::writes_and_syncs;
 
@@ -155,7 +156,7 @@ fn part_made(
     all_made(alloc, trees, part, reach, way) && (is_ended(trees, way) || flushes(trees, reach, way))
 }
 
-// The maps on a disk. Leaves and indices have three pairs and children, and where a read or an allocation is to fail, nearly each call reads.
+// The maps on a disk, with the least limits. Where a read or an allocation is to fail, nearly each call reads.
 fn opened_once(alloc: Global, disk: MemDisk, way: &Way) -> Result<Disked, (Outcome, MemDisk)> {
     let reads = way.is_refused || way.unread > 0;
     let config = if reads { SMALL } else { CONFIG };
@@ -258,18 +259,24 @@ fn stands(alloc: Global, way: &Way) -> Option<bool> {
     (is_all && opens_to_prefix(alloc, disk, &reach, way, true)).then_some(is_met)
 }
 
-// Whether the first map has more than two levels behind the list, since its root has grown, and the second has two.
-fn has_grown(alloc: Global) -> Option<bool> {
+// The pages of a map behind the list.
+fn left_of(alloc: Global, map: usize) -> Option<Reached> {
     let way = over(&(4096, 0));
     let (disk, _) = made(alloc, &way)?;
-    let trees = opened_on(alloc, disk, &way).ok()?;
-    let mut cache = trees.into_cache();
-    Some(levels(&mut cache, 0) > 2 && levels(&mut cache, 1) > 1)
+    let mut trees = opened_on(alloc, disk, &way).ok()?;
+    pages_of(alloc, &mut trees, name_of(map))
+}
+
+// A second level of indices shows that the root of the second map has grown, over two indices, and one index that these were merged. It had 15
+// keys, in three leaves or more.
+fn grows_and_shrinks(alloc: Global) -> Option<bool> {
+    let (first, second) = (left_of(alloc, 0)?, left_of(alloc, 1)?);
+    Some(first.leaves > 1 && second.levels == 3 && second.indices == 2 && second.leaves == 2)
 }
 
 #[test]
-fn the_list_grows_a_root(rt: HostRuntime) {
-    assert_eq!(rt; has_grown(rt.alloc()), Some(true));
+fn the_list_grows_a_root_and_merges(rt: HostRuntime) {
+    assert_eq!(rt; grows_and_shrinks(rt.alloc()), Some(true));
 }
 
 // Without a refused allocation this shows that every call succeeds.

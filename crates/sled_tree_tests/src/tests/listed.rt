@@ -31,14 +31,15 @@ pub(super) enum Outcome {
 /// The calls of an opening, in parts, behind each of which all is flushed.
 pub(super) type Opening = &'static [&'static [Call]];
 
-pub(super) const LIST: &[Opening] = &[FIRST_OPENING, SECOND_OPENING];
+pub(super) const LIST: &[Opening] = &[FIRST_OPENING, SECOND_OPENING, THIRD_OPENING];
 
 /// The number of the value that each key of each map has, 0 for none. A map that wasn't opened is none.
 pub(super) type Plain = [Option<[u8; KEYS]>; 2];
 
 pub(super) const NEW: Plain = [None, None];
 
-// A leaf has up to three pairs, and an index up to three children: so leaves and indices are split, and the root of the first map grows.
+// A leaf with more than four pairs is split, and so is an index with more than four children: leaves and indices are split, and the root of
+// the second map grows.
 const FIRST_OPENING: Opening = &[
     &[
         Call::Opens(0),
@@ -97,6 +98,32 @@ const SECOND_OPENING: Opening = &[
         Call::Inserts(1, 0, 34),
         Call::Inserts(1, 1, 35),
         Call::Inserts(0, 12, 36),
+    ],
+];
+
+// Leaves go into their neighbours on the left and on the right, and so do indices; what is left is split again.
+const THIRD_OPENING: Opening = &[
+    &[
+        Call::Removes(1, 5),
+        Call::Removes(1, 14),
+        Call::Removes(0, 13),
+        Call::Removes(0, 14),
+        Call::Removes(1, 11),
+        Call::Removes(0, 9),
+        Call::Removes(1, 0),
+        Call::Removes(1, 8),
+    ],
+    &[
+        Call::Removes(1, 2),
+        Call::Removes(1, 1),
+        Call::Removes(1, 3),
+        Call::Removes(1, 13),
+        Call::Removes(1, 12),
+        Call::Removes(1, 9),
+        Call::Inserts(1, 11, 37),
+        Call::Inserts(1, 5, 38),
+        Call::Inserts(1, 12, 39),
+        Call::Inserts(0, 9, 40),
     ],
 ];
 

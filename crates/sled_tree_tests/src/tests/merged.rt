@@ -1,9 +1,9 @@
 // A map whose pairs are taken out, and the pages that it takes then.
 
-use super::pairs::{Pair, Shape, gets_all, inserts, new_pair, removes};
+use super::pairs::{Pair, Shape, gets_all, inserts, new_pair, reached_in, removes};
 use super::random::Length;
+use super::reached::{Reached, used};
 use super::*;
-use sled_pagecache::Kind;
 
 const SHAPE: Shape = Shape {
     keys: Length::Of(8),
@@ -20,79 +20,63 @@ struct Row {
     steps: (u64, u64),
     // 0 where none stays
     kept: u64,
-    // no more pages are used then, and more were before; two are the cache's own
-    most: usize,
+    // there are no more leaves then, and more were before
+    leaves: usize,
 }
 
-// With nothing left a map has its root, an index on each level and a leaf. With few pairs left it has no more leaves than pairs.
+// With nothing left a map has its root, an index on each level and a leaf. With few pairs left, one of two leaves beside each other has four
+// pairs or more, if both are of one index.
 const ROWS: &[Row] = &[
     Row {
         limits: (4, 4),
         count: 300,
         steps: (1, 1),
         kept: 0,
-        most: 2 + 10,
+        leaves: 1,
     },
     Row {
         limits: (4, 4),
         count: 300,
         steps: (7, 299),
         kept: 0,
-        most: 2 + 10,
+        leaves: 1,
     },
     Row {
         limits: (4, 4),
         count: 300,
         steps: (7, 11),
         kept: 10,
-        most: 2 + 30 + 30 + 10,
+        leaves: 20,
     },
     Row {
         limits: (4, 8),
         count: 500,
         steps: (1, 499),
         kept: 50,
-        most: 2 + 10 + 10 + 5,
+        leaves: 6,
     },
     Row {
         limits: (32, 128),
         count: 1000,
         steps: (1, 1),
         kept: 0,
-        most: 2 + 3,
+        leaves: 1,
     },
     Row {
         limits: (32, 128),
         count: 1000,
         steps: (1, 999),
         kept: 0,
-        most: 2 + 3,
+        leaves: 1,
     },
     Row {
         limits: (32, 128),
         count: 1000,
         steps: (7, 379),
         kept: 100,
-        most: 2 + 10 + 2,
+        leaves: 5,
     },
 ];
-
-fn used(trees: &Trees<MemLog>) -> usize {
-    match trees.cache().shape() {
-        Ok(shape) => count_used(&shape.pages),
-        Err(_) => 0,
-    }
-}
-
-fn count_used(pages: &[sled_pagecache::PageShape]) -> usize {
-    let mut count = 0_usize;
-    for page in pages {
-        if page.kind != Kind::Free {
-            count = count.saturating_add(1);
-        }
-    }
-    count
-}
 
 fn number_at(row: &Row, i: u64, step: u64) -> u64 {
     match i.wrapping_mul(step).checked_rem(row.count) {
@@ -125,27 +109,43 @@ fn thins(alloc: Global, trees: &mut Trees<MemLog>, pair: &mut Pair, row: &Row) -
     true
 }
 
-// How many pages are used once the pairs were taken out, if all answers are those of a sorted map and more were used before; or else 0.
-fn left(alloc: Global, trees: &mut Trees<MemLog>, row: &Row) -> usize {
-    let Some(mut pair) = new_pair(alloc, trees, 0) else {
-        return 0;
-    };
-    if !fills(alloc, trees, &mut pair, row) || used(trees) <= row.most {
-        return 0;
-    }
-    if thins(alloc, trees, &mut pair, row) && gets_all(alloc, trees, &pair, SHAPE, row.count) {
-        used(trees)
-    } else {
-        0
-    }
+// Whether the map has all pages that the cache uses, but for the cache's own two, and these keep to the limits. A leaf may have one pair more,
+// up to the next one that comes there.
+fn is_tidy(trees: &Trees<MemLog>, reached: &Reached, row: &Row) -> bool {
+    let pages = reached.leaves.saturating_add(reached.indices);
+    used(trees) == pages.saturating_add(2)
+        && reached.pairs <= row.limits.0.saturating_add(1)
+        && reached.children <= row.limits.1
 }
 
-fn left_of(alloc: Global, config: Config, row: &Row) -> usize {
-    let log = MemLog::new(alloc, 512, 16);
-    match opened(alloc, config, log, Limits::new(row.limits.0, row.limits.1)) {
-        Some(mut trees) => left(alloc, &mut trees, row),
-        None => 0,
+// Whether there is one index on each level, where nothing is left.
+fn is_thin(reached: &Reached, row: &Row) -> bool {
+    row.kept > 0 || reached.indices.saturating_add(1) == reached.levels
+}
+
+// How many leaves there are once the pairs were taken out, if all answers are those of a sorted map, the pages are as they should be, and
+// there were more leaves before.
+fn left(alloc: Global, trees: &mut Trees<MemLog>, row: &Row) -> Option<usize> {
+    let mut pair = new_pair(alloc, trees, 0)?;
+    if !fills(alloc, trees, &mut pair, row) {
+        return None;
     }
+    let before = reached_in(alloc, trees, &pair)?;
+    if !is_tidy(trees, &before, row) || before.leaves <= row.leaves {
+        return None;
+    }
+    if !thins(alloc, trees, &mut pair, row) || !gets_all(alloc, trees, &pair, SHAPE, row.count) {
+        return None;
+    }
+    let after = reached_in(alloc, trees, &pair)?;
+    (is_tidy(trees, &after, row) && is_thin(&after, row)).then_some(after.leaves)
+}
+
+fn left_of(alloc: Global, config: Config, row: &Row) -> Option<usize> {
+    let log = MemLog::new(alloc, 512, 16);
+    let limits = Limits::new(row.limits.0, row.limits.1);
+    let mut trees = opened(alloc, config, log, limits)?;
+    left(alloc, &mut trees, row)
 }
 
 #[test]
@@ -153,7 +153,10 @@ fn pages_are_given_back(rt: HostRuntime) {
     for row in ROWS {
         for config in [CONFIG, SMALL] {
             let left = left_of(rt.alloc(), config, row);
-            assert!(rt; 0 < left && left <= row.most, "{left} {row:?}");
+            assert!(rt;
+                left.is_some_and(|leaves| leaves <= row.leaves),
+                "{left:?} {row:?}"
+            );
         }
     }
 }

@@ -59,7 +59,6 @@ const ROWS: &[Row] = &[
     Row {
         seed: 2,
         taken: (0, 0),
-        limit: 4,
         ..ROW
     },
     Row {
@@ -82,13 +81,11 @@ const ROWS: &[Row] = &[
     Row {
         seed: 10,
         taken: (1, 200),
-        limit: 4,
         ..ROW
     },
     Row {
         seed: 11,
         taken: (0, 199),
-        limit: 4,
         ..ROW
     },
     Row {
@@ -128,7 +125,8 @@ const ROWS: &[Row] = &[
 
 // ---- what a plain map has
 
-fn is_within(from: &Bound<IVec>, to: &Bound<IVec>, key: &IVec) -> bool {
+/// Whether a key is behind the one bound and before the other.
+pub(super) fn is_within(from: &Bound<IVec>, to: &Bound<IVec>, key: &IVec) -> bool {
     let is_behind = match from {
         Bound::Included(start) => key >= start,
         Bound::Excluded(start) => key > start,
@@ -162,8 +160,8 @@ fn is_end(
     }
 }
 
-// Whether the pairs are the first between the bounds, none only where there is none, and the others are from where it says.
-fn is_piece(piece: &Piece, plain: &Plain, from: &Bound<IVec>, to: &Bound<IVec>) -> bool {
+/// Whether the pairs are the first between the bounds, none only where there is none, and the others are from where it says.
+pub(super) fn is_piece(piece: &Piece, plain: &Plain, from: &Bound<IVec>, to: &Bound<IVec>) -> bool {
     let found = piece.pairs.as_slice();
     let mut place = 0usize;
     for (key, value) in plain.iter() {
@@ -190,8 +188,12 @@ fn begins_rest(rest: &Option<IVec>, found: &[(IVec, IVec)], next: &IVec) -> bool
 
 // ---- the calls
 
-// The first two numbers are no bound, and then two each are those of a key.
-fn bound_of(alloc: Global, shape: Shape, number: u64) -> Result<Bound<IVec>, AllocError> {
+/// A bound by its number: the first two are no bound, and then two each are those of a key, which is included by the first of them.
+pub(super) fn bound_of(
+    alloc: Global,
+    shape: Shape,
+    number: u64,
+) -> Result<Bound<IVec>, AllocError> {
     if number < 2 {
         return Ok(Bound::Unbounded);
     }

@@ -1,6 +1,7 @@
 // A map beside a plain sorted map, by which each answer is judged.
 
 use super::random::{Length, bytes_of};
+use super::reached::{Reached, pages_of};
 use super::*;
 
 pub(super) type Plain = BTreeMap<IVec, IVec>;
@@ -22,6 +23,11 @@ pub(super) struct Shape {
 
 fn tree_of(trees: &mut Trees<MemLog>, name: u8) -> Option<Tree> {
     trees.open(&[b'm', name]).ok()
+}
+
+/// The pages of the map, if each one is there.
+pub(super) fn reached_in(alloc: Global, trees: &mut Trees<MemLog>, pair: &Pair) -> Option<Reached> {
+    pages_of(alloc, trees, &[b'm', pair.name])
 }
 
 /// A new map. Opened again, it is the same.
