@@ -2,6 +2,7 @@ mod batches;
 mod calls;
 mod compare;
 mod corners;
+mod cuts;
 mod dropped;
 mod faults;
 mod handles;

@@ -2,6 +2,7 @@
 
 use super::listed::{Call, KEYS, Outcome, Plain};
 use super::*;
+use std::ops::Bound;
 
 // A name, a key or a value of more than 22 bytes takes memory.
 const NAMES: [&[u8]; 2] = [b"m", b"a map whose name takes memory"];
@@ -172,11 +173,72 @@ fn has_values<L: Log>(trees: &mut Trees<L>, map: usize, values: &[u8; KEYS]) -> 
     true
 }
 
-/// Whether all maps are there that should be, with the values that they should have. No map is made.
+// The first key from this one on that has a value.
+fn next_key(values: &[u8; KEYS], from: usize) -> Option<usize> {
+    for (key, value) in values.iter().enumerate() {
+        if key >= from && *value > 0 {
+            return Some(key);
+        }
+    }
+    None
+}
+
+// The key behind those of a piece, if its pairs are the next ones from this key on.
+fn behind_piece(piece: &Piece, values: &[u8; KEYS], from: usize) -> Option<usize> {
+    let mut next = from;
+    for (found, value) in piece.pairs.iter() {
+        let key = next_key(values, next)?;
+        let wanted = values.get(key).copied()?;
+        if found.as_slice() != key_of(key) || value_of(value.as_slice()) != Outcome::Was(wanted) {
+            return None;
+        }
+        next = key.saturating_add(1);
+    }
+    Some(next)
+}
+
+fn count_of(values: &[u8; KEYS]) -> u64 {
+    let mut count = 0u64;
+    for value in values {
+        count = count.saturating_add(u64::from(*value > 0));
+    }
+    count
+}
+
+// Whether all pieces from the first key on have these pairs alone, and as many are counted.
+fn has_pieces<L: Log>(trees: &mut Trees<L>, map: usize, values: &[u8; KEYS]) -> bool {
+    let Ok(tree) = tree_of(trees, map) else {
+        return false;
+    };
+    let (mut from, mut next) = (Bound::Unbounded, 0usize);
+    for _ in 0..KEYS + 1 {
+        let Ok(piece) = trees.range(tree, &from, &Bound::Unbounded) else {
+            return false;
+        };
+        let Some(behind) = behind_piece(&piece, values, next) else {
+            return false;
+        };
+        next = behind;
+        match piece.rest {
+            Some(start) => from = Bound::Included(start),
+            None => {
+                return next_key(values, next).is_none()
+                    && trees.len(tree).ok() == Some(count_of(values));
+            }
+        }
+    }
+    false
+}
+
+/// Whether all maps are there that should be, with the values that they should have, key by key and piece by piece. No map is made.
 pub(super) fn is_plain<L: Log>(trees: &mut Trees<L>, plain: &Plain) -> bool {
     for (map, values) in plain.iter().enumerate() {
         let is_so = match values {
-            Some(values) => is_named(trees.cache(), name_of(map)) && has_values(trees, map, values),
+            Some(values) => {
+                is_named(trees.cache(), name_of(map))
+                    && has_values(trees, map, values)
+                    && has_pieces(trees, map, values)
+            }
             None => is_unnamed(trees.cache(), name_of(map)),
         };
         if !is_so {
@@ -210,6 +272,11 @@ pub(super) fn goes_on<L: Log>(alloc: Global, trees: &mut Trees<L>, plain: &Plain
     true
 }
 
+// Whether the map has these pairs. A read that fails, or a refused allocation, may fall in the first try.
+fn shows<L: Log>(trees: &mut Trees<L>, map: usize, values: &[u8; KEYS]) -> bool {
+    has_pieces(trees, map, values) || has_pieces(trees, map, values)
+}
+
 fn sets_all<L: Log>(alloc: Global, trees: &mut Trees<L>, map: usize, values: &[u8; KEYS]) -> bool {
     for (key, value) in values.iter().enumerate() {
         let call = Call::Inserts(map, key, SPARE);
@@ -217,7 +284,7 @@ fn sets_all<L: Log>(alloc: Global, trees: &mut Trees<L>, map: usize, values: &[u
             return false;
         }
     }
-    true
+    shows(trees, map, &[SPARE; KEYS])
 }
 
 fn empties<L: Log>(alloc: Global, trees: &mut Trees<L>, map: usize) -> bool {
@@ -226,5 +293,5 @@ fn empties<L: Log>(alloc: Global, trees: &mut Trees<L>, map: usize) -> bool {
             return false;
         }
     }
-    true
+    shows(trees, map, &[0; KEYS])
 }

@@ -2,7 +2,7 @@
 
 use super::pairs::{Pair, Shape, finds_all, gets, gets_all, inserts, new_pairs, removes};
 use super::random::{Length, Random};
-use super::swaps::{Old, Swap, swaps};
+use super::swaps::{Near, Old, Swap, swaps};
 use super::*;
 
 // Which key comes next.
@@ -173,9 +173,12 @@ fn next_key(list: &List, random: &mut Random, call: u64) -> u64 {
 
 // The next swap: of each of these old values the new one is none a third of the times.
 fn next_swap(random: &mut Random, value: u64) -> Swap {
-    let old = match random.below(4) {
-        0 => Old::Missing,
-        1 => Old::Of(random.below(100_000)),
+    let old = match random.below(8) {
+        0 | 1 => Old::Missing,
+        2 => Old::Of(random.below(100_000)),
+        3 => Old::Near(Near::LastByte),
+        4 => Old::Near(Near::Longer),
+        5 => Old::Near(Near::Shorter),
         _ => Old::Present,
     };
     let new = if random.below(3) == 0 {

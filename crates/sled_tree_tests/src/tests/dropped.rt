@@ -4,16 +4,37 @@ use super::pairs::{Pair, Shape, gets_all, inserts, new_pair};
 use super::random::Length;
 use super::*;
 
-const SHAPE: Shape = Shape {
+const SHORT: Shape = Shape {
     keys: Length::Of(8),
     values: Length::Of(3),
 };
 
+// Keys that have their first 300 bytes in common.
+const LONG: Shape = Shape {
+    keys: Length::Of(308),
+    values: Length::Of(3),
+};
+
+// How many pairs the maps have.
+const COUNTS: &[(u64, Shape)] = &[
+    (0, SHORT),
+    (1, SHORT),
+    (5, SHORT),
+    (200, SHORT),
+    (1000, SHORT),
+    (50, LONG),
+];
+
 // A new map of so many pairs.
-fn filled(alloc: Global, trees: &mut Trees<MemLog>, name: u8, count: u64) -> Option<Pair> {
+fn filled(
+    alloc: Global,
+    trees: &mut Trees<MemLog>,
+    name: u8,
+    (count, shape): (u64, Shape),
+) -> Option<Pair> {
     let mut pair = new_pair(alloc, trees, name)?;
     for number in 0..count {
-        if !inserts(alloc, trees, &mut pair, SHAPE, number, number) {
+        if !inserts(alloc, trees, &mut pair, shape, number, number) {
             return None;
         }
     }
@@ -29,15 +50,15 @@ fn drops(trees: &mut Trees<MemLog>, name: &[u8]) -> bool {
     trees.drop_tree(name) == Ok(true) && trees.drop_tree(name) == Ok(false)
 }
 
-fn is_filled(alloc: Global, trees: &mut Trees<MemLog>, name: u8, count: u64) -> bool {
+fn is_filled(alloc: Global, trees: &mut Trees<MemLog>, name: u8, count: (u64, Shape)) -> bool {
     match filled(alloc, trees, name, count) {
-        Some(pair) => gets_all(alloc, trees, &pair, SHAPE, count),
+        Some(pair) => gets_all(alloc, trees, &pair, count.1, count.0),
         None => false,
     }
 }
 
 // Whether there are as many pages once a map was dropped and another one of as many pairs was made.
-fn are_used_again(alloc: Global, trees: &mut Trees<MemLog>, count: u64) -> bool {
+fn are_used_again(alloc: Global, trees: &mut Trees<MemLog>, count: (u64, Shape)) -> bool {
     let before = pages_in(trees);
     before.is_some()
         && drops(trees, b"m\x01")
@@ -46,18 +67,18 @@ fn are_used_again(alloc: Global, trees: &mut Trees<MemLog>, count: u64) -> bool 
 }
 
 // The same beside a map that stays.
-fn are_used_beside(alloc: Global, trees: &mut Trees<MemLog>, count: u64) -> bool {
+fn are_used_beside(alloc: Global, trees: &mut Trees<MemLog>, count: (u64, Shape)) -> bool {
     match filled(alloc, trees, 0, count) {
         Some(kept) => {
             is_filled(alloc, trees, 1, count)
                 && are_used_again(alloc, trees, count)
-                && gets_all(alloc, trees, &kept, SHAPE, count)
+                && gets_all(alloc, trees, &kept, count.1, count.0)
         }
         None => false,
     }
 }
 
-fn are_used_in(alloc: Global, config: Config, count: u64) -> bool {
+fn are_used_in(alloc: Global, config: Config, count: (u64, Shape)) -> bool {
     let log = MemLog::new(alloc, 512, 16);
     match opened(alloc, config, log, Limits::new(4, 4)) {
         Some(mut trees) => are_used_beside(alloc, &mut trees, count),
@@ -67,9 +88,9 @@ fn are_used_in(alloc: Global, config: Config, count: u64) -> bool {
 
 #[test]
 fn the_pages_of_a_dropped_map_are_used_again(rt: HostRuntime) {
-    for count in [0, 1, 5, 200] {
+    for count in COUNTS {
         for config in [CONFIG, SMALL] {
-            assert!(rt; are_used_in(rt.alloc(), config, count), "{count}");
+            assert!(rt; are_used_in(rt.alloc(), config, *count), "{}", count.0);
         }
     }
 }

@@ -17,6 +17,7 @@ const ROWS: &[(u64, usize)] = &[
     (300, 22),
     (300, 23),
     (300, 255),
+    (17, 308),
 ];
 
 // The key of each map whose value tells the number of its name.
@@ -26,11 +27,13 @@ fn name_of(alloc: Global, length: usize, number: u64) -> Option<IVec> {
     bytes_of(alloc, Length::Of(length), number).ok()
 }
 
-// The map of a name, which another call finds too.
+// The map of a name, which other calls find too.
 fn tree_of(alloc: Global, trees: &mut Trees<MemLog>, length: usize, number: u64) -> Option<Tree> {
     let name = name_of(alloc, length, number)?;
     let tree = trees.open(name.as_slice()).ok()?;
-    (trees.open(name.as_slice()).ok() == Some(tree)).then_some(tree)
+    let is_found = trees.get_tree(name.as_slice()).ok() == Some(Some(tree))
+        && trees.open(name.as_slice()).ok() == Some(tree);
+    is_found.then_some(tree)
 }
 
 // Whether a map has had nothing, and has the number of its name now.
@@ -125,6 +128,7 @@ fn drops(alloc: Global, trees: &mut Trees<MemLog>, length: usize, number: u64, w
     match name_of(alloc, length, number) {
         Some(name) => {
             trees.drop_tree(name.as_slice()) == Ok(was)
+                && trees.get_tree(name.as_slice()) == Ok(None)
                 && trees.drop_tree(name.as_slice()) == Ok(false)
         }
         None => false,

@@ -1,6 +1,6 @@
 // Whole maps that are walked piece by piece, and pair by pair, beside a plain sorted map.
 
-use super::ordered::{bound_of, is_within};
+use super::ordered::{bound_of, is_within, sums_agree};
 use super::pairs::{Pair, Plain, Shape, inserts, new_pair};
 use super::random::Length;
 use super::*;
@@ -188,7 +188,7 @@ fn all_walk(alloc: Global, still: &Still) -> Option<bool> {
     let mut trees = new_maps(alloc, still.limits, still.is_small)?;
     let mut pair = new_pair(alloc, &mut trees, b'p')?;
     let count = still.keys.len().saturating_mul(2).saturating_add(1);
-    let mut is_right = fills(alloc, &mut trees, &mut pair, still);
+    let mut is_right = fills(alloc, &mut trees, &mut pair, still) && sums_agree(&mut trees, &pair);
     for from in 0..count {
         for to in 0..count {
             let between = (number_at(still, from), number_at(still, to));

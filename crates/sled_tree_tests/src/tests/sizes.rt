@@ -3,6 +3,7 @@
 use super::pairs::{Pair, Shape, gets_all, inserts, new_pair, reached_in, removes};
 use super::random::Length;
 use super::reached::used;
+use super::swaps::{Old, Swap, swaps};
 use super::*;
 
 const SHAPE: Shape = Shape {
@@ -10,7 +11,7 @@ const SHAPE: Shape = Shape {
     values: Length::Of(3),
 };
 
-/// So many pairs are set by keys that rise, and then those of some numbers are taken out.
+/// So many pairs are set by keys that rise, and then those of some numbers are taken out, each second one by a swap.
 ///
 /// Keys that rise leave each leaf full, and each index, and the last leaf has one pair more before it is split.
 #[derive(Clone, Copy, Debug)]
@@ -204,10 +205,27 @@ fn fills(alloc: Global, trees: &mut Trees<MemLog>, pair: &mut Pair, count: u64) 
     true
 }
 
-fn takes(alloc: Global, trees: &mut Trees<MemLog>, pair: &mut Pair, taken: &[(u64, u64)]) -> bool {
+// Whether the key is taken out, by a swap where its number is odd.
+fn takes(alloc: Global, trees: &mut Trees<MemLog>, pair: &mut Pair, number: u64) -> bool {
+    if number % 2 == 0 {
+        return removes(alloc, trees, pair, SHAPE, number);
+    }
+    let swap = Swap {
+        old: Old::Present,
+        new: None,
+    };
+    swaps(alloc, trees, pair, SHAPE, number, swap)
+}
+
+fn takes_all(
+    alloc: Global,
+    trees: &mut Trees<MemLog>,
+    pair: &mut Pair,
+    taken: &[(u64, u64)],
+) -> bool {
     for (from, to) in taken {
         for number in *from..*to {
-            if !removes(alloc, trees, pair, SHAPE, number) {
+            if !takes(alloc, trees, pair, number) {
                 return false;
             }
         }
@@ -221,7 +239,7 @@ fn left(alloc: Global, row: &Row) -> Option<(usize, usize)> {
     let mut trees = new_maps(alloc, row)?;
     let mut pair = new_pair(alloc, &mut trees, 0)?;
     let is_so = fills(alloc, &mut trees, &mut pair, row.count)
-        && takes(alloc, &mut trees, &mut pair, row.taken)
+        && takes_all(alloc, &mut trees, &mut pair, row.taken)
         && gets_all(alloc, &mut trees, &pair, SHAPE, row.count);
     let reached = reached_in(alloc, &mut trees, &pair)?;
     let pages = reached.leaves.saturating_add(reached.indices);

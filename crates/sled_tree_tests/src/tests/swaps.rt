@@ -13,6 +13,17 @@ pub(super) enum Old {
     Missing,
     // that of a number
     Of(u64),
+    // one that is nearly the one that is there
+    Near(Near),
+}
+
+/// In what a value differs from another one.
+#[derive(Clone, Copy)]
+pub(super) enum Near {
+    LastByte,
+    // it has one byte more, or one fewer
+    Longer,
+    Shorter,
 }
 
 /// A value that is compared with, and the number of the one that takes its place, if one does.
@@ -35,7 +46,38 @@ fn old_of<'a>(old: Old, present: Option<&'a IVec>, other: &'a IVec) -> Option<&'
     match old {
         Old::Present => present,
         Old::Missing => None,
-        Old::Of(_) => Some(other),
+        Old::Of(_) | Old::Near(_) => Some(other),
+    }
+}
+
+fn near_to(alloc: Global, value: &IVec, near: Near) -> Result<IVec, AllocError> {
+    let mut bytes = Vec::new(alloc);
+    bytes.extend_from_slice(value.as_slice())?;
+    match near {
+        Near::LastByte => {
+            if let Some(last) = bytes.last_mut() {
+                *last ^= 1;
+            }
+        }
+        Near::Longer => bytes.extend_from_slice(&[0])?,
+        Near::Shorter => {
+            let _ = bytes.pop();
+        }
+    }
+    IVec::from_vec(alloc, bytes)
+}
+
+// The value of a number, or one near to that which is there.
+fn other_of(
+    alloc: Global,
+    shape: Shape,
+    old: Old,
+    present: Option<&IVec>,
+) -> Result<IVec, AllocError> {
+    match (old, present) {
+        (Old::Of(number), _) => bytes_of(alloc, shape.values, number),
+        (Old::Near(near), Some(value)) => near_to(alloc, value, near),
+        _ => Ok(IVec::default()),
     }
 }
 
@@ -68,14 +110,9 @@ fn is_made(
     key: &IVec,
     swap: Swap,
 ) -> Option<bool> {
-    let number = if let Old::Of(number) = swap.old {
-        number
-    } else {
-        0
-    };
-    let other = bytes_of(alloc, shape.values, number).ok()?;
     let new = value_of(alloc, shape, swap.new).ok()?;
     let present = pair.plain.get(key);
+    let other = other_of(alloc, shape, swap.old, present).ok()?;
     let old = old_of(swap.old, present, &other);
     let is_right = is_same(present, old);
     let old = old.map(|value| value.as_slice());
