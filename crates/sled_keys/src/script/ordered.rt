@@ -121,8 +121,17 @@ fn take_piece<L: Log>(
     from: IVec,
     pairs: &mut Vec<(IVec, IVec)>,
 ) -> Result<Option<IVec>, TreeError> {
-    let piece = range(alloc, trees, name, &Bound::Included(from), &Bound::Unbounded)?;
-    let Piece { pairs: mut more, rest } = piece;
+    let piece = range(
+        alloc,
+        trees,
+        name,
+        &Bound::Included(from),
+        &Bound::Unbounded,
+    )?;
+    let Piece {
+        pairs: mut more,
+        rest,
+    } = piece;
     pairs.append(&mut more)?;
     Ok(rest)
 }

@@ -46,6 +46,10 @@ fn live_after(alloc: Global, steps: &[Step]) -> Option<(u64, u64)> {
 #[test]
 fn what_makes_the_pages_is_live(rt: HostRuntime) {
     for (title, steps, live) in ROWS {
-        assert_eq!(rt; live_after(rt.alloc(), steps), Some((*live, *live)), "{title}");
+        assert_eq!(rt;
+            live_after(rt.alloc(), steps),
+            Some((*live, *live)),
+            "{title}"
+        );
     }
 }

@@ -235,7 +235,9 @@ fn walks_on(
         if !is_piece(&piece, &pair.plain, &from, &to) || !meets(&piece, &mut met) {
             return Some(false);
         }
-        let Some(start) = piece.rest else {
+        let Piece { pairs, rest } = piece;
+        drop(pairs);
+        let Some(start) = rest else {
             return Some(all_met(&met, &first, &to));
         };
         from = Bound::Included(start);
