@@ -219,13 +219,13 @@ fn has_pieces<L: Log>(trees: &mut Trees<L>, map: usize, values: &[u8; KEYS]) -> 
             return false;
         };
         next = behind;
-        match piece.rest {
-            Some(start) => from = Bound::Included(start),
-            None => {
-                return next_key(values, next).is_none()
-                    && trees.len(tree).ok() == Some(count_of(values));
-            }
-        }
+        let Piece { pairs, rest } = piece;
+        drop(pairs);
+        let Some(start) = rest else {
+            return next_key(values, next).is_none()
+                && trees.len(tree).ok() == Some(count_of(values));
+        };
+        from = Bound::Included(start);
     }
     false
 }
