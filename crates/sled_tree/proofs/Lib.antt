@@ -1,4 +1,5 @@
 pub mod Adding
+pub mod ByName
 pub mod CallsFlushed
 pub mod CallsKeys
 pub mod CallsNames

@@ -1,3 +1,4 @@
+pub mod ByName
 pub mod Calls
 pub mod Changed
 pub mod Dropping

@@ -1,12 +1,29 @@
 //! Calls of the maps by their names. A name that has no map is one of an empty map, and is given a map where something is to be set.
 
+ghost use Rattle.std.specs.Prelude.{◌≡◌, [], IfErr, OnOk, unwrap_or, length};
+ghost use Rattle.std.specs.Option.{option_map};
+ghost use Rattle.sled_search.specs.Map.{at_key};
+ghost use Rattle.sled_tree.specs.ByName.{IsOfMap, SetsIn, SwapsIn, SwapsNone, TakesFrom, first_name, follows};
+ghost use Rattle.sled_tree.specs.Changed.{Reads};
+ghost use Rattle.sled_tree.specs.Dropping.{names_of};
+ghost use Rattle.sled_tree.specs.Errors.{IsOfCache, IsOfKey, IsOfPair, IsTooLong};
+ghost use Rattle.sled_tree.specs.Maps.{root_of};
+ghost use Rattle.sled_tree.specs.Named.{AreNamed, Named};
+ghost use Rattle.sled_tree.specs.Names.{OpensMap};
+ghost use Rattle.sled_tree.specs.Ordered.{behind, before, first_of, last_of, IsPieceOf};
+ghost use Rattle.sled_tree.specs.Performs.{Performs};
+ghost use Rattle.sled_tree.specs.declared.error.TreeError.TheVariants.{KeyTooLong, ValueTooLong};
+
 use crate::{Error, IVec, Log, Piece, Tree, TreeError, Trees, Why};
 use sled_pagecache::sled_node::node::MAX_BYTES;
 use std::alloc::Global;
 use std::ops::Bound;
 
 /// Refuses a key that is too long for every map, with `KeyTooLong`.
-pub fn check_key(key: &[u8]) -> Result<(), TreeError> {
+pub fn check_key(key: &[u8]) -> Result<(), TreeError>
+    ensures long { IfErr result (λ e. (e ≡ KeyTooLong) × IsTooLong key.now) }
+    ensures short { OnOk result (IsTooLong key.now → ⊥) }
+{
     if key.len() > MAX_BYTES {
         return Err(TreeError::KeyTooLong);
     }
@@ -14,7 +31,10 @@ pub fn check_key(key: &[u8]) -> Result<(), TreeError> {
 }
 
 /// Refuses a value that is too long for every map, with `ValueTooLong`.
-pub fn check_value(value: &[u8]) -> Result<(), TreeError> {
+pub fn check_value(value: &[u8]) -> Result<(), TreeError>
+    ensures long { IfErr result (λ e. (e ≡ ValueTooLong) × IsTooLong value.now) }
+    ensures short { OnOk result (IsTooLong value.now → ⊥) }
+{
     if value.len() > MAX_BYTES {
         return Err(TreeError::ValueTooLong);
     }
@@ -22,7 +42,10 @@ pub fn check_value(value: &[u8]) -> Result<(), TreeError> {
 }
 
 // The map of a name, which is made where there is none. A search in memory is all where there is one.
-fn tree_for<L: Log>(trees: &mut Trees<L>, name: &[u8]) -> Result<Tree, TreeError> {
+fn tree_for<L: Log>(trees: &mut Trees<L>, name: &[u8]) -> Result<Tree, TreeError>
+    ensures maps { Performs L.Log (OpensMap root_of name.now result) trees.old trees.new }
+    ensures errors { IfErr result IsOfCache }
+{
     match trees.get_tree(name)? {
         Some(tree) => Ok(tree),
         None => tree_of_new(trees, name),
@@ -30,7 +53,10 @@ fn tree_for<L: Log>(trees: &mut Trees<L>, name: &[u8]) -> Result<Tree, TreeError
 }
 
 // A map that is made for a name. One that is too long is refused before anything is allocated for it.
-fn tree_of_new<L: Log>(trees: &mut Trees<L>, name: &[u8]) -> Result<Tree, TreeError> {
+fn tree_of_new<L: Log>(trees: &mut Trees<L>, name: &[u8]) -> Result<Tree, TreeError>
+    ensures maps { Performs L.Log (OpensMap root_of name.now result) trees.old trees.new }
+    ensures errors { IfErr result IsOfCache }
+{
     if name.len() > MAX_BYTES {
         return Err(TreeError::Cache(Error::Unsupported(Why::NameTooLong)));
     }
@@ -38,11 +64,11 @@ fn tree_of_new<L: Log>(trees: &mut Trees<L>, name: &[u8]) -> Result<Tree, TreeEr
 }
 
 /// The value of a key.
-pub fn get<L: Log>(
-    trees: &mut Trees<L>,
-    name: &[u8],
-    key: &[u8],
-) -> Result<Option<IVec>, TreeError> {
+pub fn get<L: Log>(trees: &mut Trees<L>, name: &[u8], key: &[u8]) -> Result<Option<IVec>, TreeError>
+    ensures value { Performs L.Log (Reads result (IsOfMap name.now
+        (λ m value. value ≡ at_key m key.now))) trees.old trees.new }
+    ensures errors { IfErr result IsOfCache }
+{
     match trees.get_tree(name)? {
         Some(tree) => trees.get(tree, key),
         None => Ok(None),
@@ -57,7 +83,10 @@ pub fn set<L: Log>(
     name: &[u8],
     key: &[u8],
     value: IVec,
-) -> Result<Option<IVec>, TreeError> {
+) -> Result<Option<IVec>, TreeError>
+    ensures maps { SetsIn L.Log name.now key.now value result trees.old trees.new }
+    ensures errors { IfErr result (IsOfPair key.now value) }
+{
     check_key(key)?;
     check_value(value.as_slice())?;
     let tree = tree_for(trees, name)?;
@@ -71,7 +100,10 @@ pub fn remove<L: Log>(
     trees: &mut Trees<L>,
     name: &[u8],
     key: &[u8],
-) -> Result<Option<IVec>, TreeError> {
+) -> Result<Option<IVec>, TreeError>
+    ensures maps { TakesFrom L.Log name.now key.now result trees.old trees.new }
+    ensures errors { IfErr result (IsOfKey key.now) }
+{
     check_key(key)?;
     match trees.get_tree(name)? {
         Some(tree) => trees.remove(tree, key),
@@ -88,22 +120,57 @@ pub fn swap<L: Log>(
     key: &[u8],
     old: Option<&[u8]>,
     new: Option<IVec>,
-) -> Result<Result<(), Option<IVec>>, TreeError> {
+) -> Result<Result<(), Option<IVec>>, TreeError>
+    ensures maps { SwapsIn L.Log name.now key.now (option_map (λ old. old.now) old.entry) new result
+        trees.old trees.new }
+    ensures errors { IfErr result (IsOfPair key.now (unwrap_or new [])) }
+{
     check_key(key)?;
-    if let Some(value) = &new {
-        check_value(value.as_slice())?;
+    check_some(&new)?;
+    match trees.get_tree(name)? {
+        Some(tree) => trees.compare_and_swap(tree, key, old, new),
+        None => swap_in_new(trees, name, key, old, new),
     }
-    let tree = match trees.get_tree(name)? {
-        Some(tree) => tree,
-        None if old.is_some() => return Ok(Err(None)),
-        None if new.is_none() => return Ok(Ok(())),
-        None => tree_of_new(trees, name)?,
+}
+
+// Refuses a value that is too long, if there is one.
+fn check_some(value: &Option<IVec>) -> Result<(), TreeError>
+    ensures long { IfErr result (λ e. (e ≡ ValueTooLong) × IsTooLong (unwrap_or value.now [])) }
+{
+    match value {
+        Some(value) => check_value(value.as_slice()),
+        None => Ok(()),
+    }
+}
+
+// A swap where the name has no map: that has no value, and is made where the key is to have one.
+fn swap_in_new<L: Log>(
+    trees: &mut Trees<L>,
+    name: &[u8],
+    key: &[u8],
+    old: Option<&[u8]>,
+    new: Option<IVec>,
+) -> Result<Result<(), Option<IVec>>, TreeError>
+    ensures maps { SwapsNone L.Log name.now key.now (option_map (λ old. old.now) old.entry) new
+        result trees.old trees.new }
+    ensures errors { IfErr result (IsOfPair key.now (unwrap_or new [])) }
+{
+    if old.is_some() {
+        return Ok(Err(None));
+    }
+    let Some(value) = new else {
+        return Ok(Ok(()));
     };
-    trees.compare_and_swap(tree, key, old, new)
+    let tree = tree_of_new(trees, name)?;
+    trees.compare_and_swap(tree, key, None, Some(value))
 }
 
 /// The pair with the least key.
-pub fn first<L: Log>(trees: &mut Trees<L>, name: &[u8]) -> Result<Option<(IVec, IVec)>, TreeError> {
+pub fn first<L: Log>(trees: &mut Trees<L>, name: &[u8]) -> Result<Option<(IVec, IVec)>, TreeError>
+    ensures pair { Performs L.Log (Reads result (IsOfMap name.now
+        (λ m pair. pair ≡ first_of m))) trees.old trees.new }
+    ensures errors { IfErr result IsOfCache }
+{
     match trees.get_tree(name)? {
         Some(tree) => trees.first(tree),
         None => Ok(None),
@@ -111,7 +178,11 @@ pub fn first<L: Log>(trees: &mut Trees<L>, name: &[u8]) -> Result<Option<(IVec, 
 }
 
 /// The pair with the greatest key.
-pub fn last<L: Log>(trees: &mut Trees<L>, name: &[u8]) -> Result<Option<(IVec, IVec)>, TreeError> {
+pub fn last<L: Log>(trees: &mut Trees<L>, name: &[u8]) -> Result<Option<(IVec, IVec)>, TreeError>
+    ensures pair { Performs L.Log (Reads result (IsOfMap name.now
+        (λ m pair. pair ≡ last_of m))) trees.old trees.new }
+    ensures errors { IfErr result IsOfCache }
+{
     match trees.get_tree(name)? {
         Some(tree) => trees.last(tree),
         None => Ok(None),
@@ -123,7 +194,11 @@ pub fn next_above<L: Log>(
     trees: &mut Trees<L>,
     name: &[u8],
     bound: &Bound<IVec>,
-) -> Result<Option<(IVec, IVec)>, TreeError> {
+) -> Result<Option<(IVec, IVec)>, TreeError>
+    ensures pair { Performs L.Log (Reads result (IsOfMap name.now
+        (λ m pair. pair ≡ first_of (behind bound.now m)))) trees.old trees.new }
+    ensures errors { IfErr result IsOfCache }
+{
     match trees.get_tree(name)? {
         Some(tree) => trees.next_above(tree, bound),
         None => Ok(None),
@@ -135,7 +210,11 @@ pub fn next_below<L: Log>(
     trees: &mut Trees<L>,
     name: &[u8],
     bound: &Bound<IVec>,
-) -> Result<Option<(IVec, IVec)>, TreeError> {
+) -> Result<Option<(IVec, IVec)>, TreeError>
+    ensures pair { Performs L.Log (Reads result (IsOfMap name.now
+        (λ m pair. pair ≡ last_of (before bound.now m)))) trees.old trees.new }
+    ensures errors { IfErr result IsOfCache }
+{
     match trees.get_tree(name)? {
         Some(tree) => trees.next_below(tree, bound),
         None => Ok(None),
@@ -161,7 +240,11 @@ pub fn below<L: Log>(
 }
 
 /// How many pairs there are.
-pub fn count<L: Log>(trees: &mut Trees<L>, name: &[u8]) -> Result<u64, TreeError> {
+pub fn count<L: Log>(trees: &mut Trees<L>, name: &[u8]) -> Result<u64, TreeError>
+    ensures pairs { Performs L.Log (Reads result (IsOfMap name.now
+        (λ m count. count ≡ length m))) trees.old trees.new }
+    ensures errors { IfErr result IsOfCache }
+{
     match trees.get_tree(name)? {
         Some(tree) => trees.len(tree),
         None => Ok(0),
@@ -175,7 +258,11 @@ pub fn range<L: Log>(
     name: &[u8],
     from: &Bound<IVec>,
     to: &Bound<IVec>,
-) -> Result<Piece, TreeError> {
+) -> Result<Piece, TreeError>
+    ensures pairs { Performs L.Log (Reads result (IsOfMap name.now
+        (λ m piece. IsPieceOf from.now to.now m piece))) trees.old trees.new }
+    ensures errors { IfErr result IsOfCache }
+{
     match trees.get_tree(name)? {
         Some(tree) => trees.range(tree, from, to),
         None => Ok(Piece {
@@ -188,20 +275,38 @@ pub fn range<L: Log>(
 /// The first name of a map behind this one, by its bytes, or the first of all.
 ///
 /// All names are copied for that. Nothing is read from the log.
-pub fn next_name<L: Log>(
-    alloc: Global,
-    trees: &Trees<L>,
-    after: Option<&[u8]>,
-) -> Result<Option<IVec>, TreeError> {
-    let view = match trees.cache().get_meta() {
-        Ok(view) => view,
-        Err(refusal) => return Err(TreeError::Cache(Error::from(refusal))),
-    };
-    let roots = view.meta().tenants()?;
-    for name in roots.keys() {
-        if after.is_none_or(|bound| bound < name.as_slice()) {
-            return Ok(Some(IVec::from_slice(alloc, name.as_slice())?));
+pub fn next_name<L: Log>(trees: &Trees<L>, after: Option<&[u8]>) -> Result<Option<IVec>, TreeError>
+    ensures name { Performs L.Log (Reads result (λ pages name. (w : Named) → AreNamed pages w
+        → name ≡ first_name (option_map (λ after. after.now) after.entry) (names_of w.names)))
+        trees.now trees.now }
+    ensures errors { IfErr result IsOfCache }
+{
+    let names = trees.names()?;
+    match first_behind(&names, after) {
+        Some(name) => Ok(Some(name.clone()?)),
+        None => Ok(None),
+    }
+}
+
+// The first of these names behind this one, or of all.
+fn first_behind<'a>(names: &'a [IVec], after: Option<&[u8]>) -> Option<&'a IVec>
+    ensures { option_map (λ name. name.now) result
+        ≡ first_name (option_map (λ after. after.now) after.entry) names.now }
+{
+    for name in names {
+        if is_behind(name, after) {
+            return Some(name);
         }
     }
-    Ok(None)
+    None
+}
+
+// Whether the name is behind the other one, if there is one.
+fn is_behind(name: &IVec, after: Option<&[u8]>) -> bool
+    ensures { result ≡ follows (option_map (λ after. after.now) after.entry) name.now }
+{
+    match after {
+        Some(after) => after.cmp(name.as_slice()).is_lt(),
+        None => true,
+    }
 }

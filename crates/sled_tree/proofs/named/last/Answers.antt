@@ -1,0 +1,14 @@
+use Rattle.std.proofs.Common.{◌≡◌, Ok, Some}
+use Rattle.sled_tree.specs.Changed.{Reads}
+use Rattle.sled_tree.specs.Dropping.{IsMapOf}
+use Rattle.sled_tree.specs.Ordered.{last_of}
+use Rattle.sled_tree.specs.Performs.{Performs}
+use Rattle.sled_tree.specs.declared.error.TreeError.{TreeError}
+use Rattle.sled_tree.proofs.ByName.{reads-found}
+use Rattle.sled_tree.proofs.named.last.Goals as goal
+
+pub returns-in-Some-clause-pair : goal.returns-in-Some-clause-pair
+returns-in-Some-clause-pair g c =
+    let here = c.args.trees.now in
+    let found : Performs g.L.Log (Reads {E = TreeError} (Ok (Some c.in-Some.tree)) (IsMapOf c.args.name.now)) here here = rw c.in-Some.is at c.in_ok-tree.ensures.map in
+    reads-found g.L.Log c.args.name.now {E = TreeError} (λ m pair. pair ≡ last_of m) c.in-Some.tree c.last.result here c.last.new.self found c.last.ensures.pair
