@@ -49,7 +49,7 @@ pub node_fits : (n : WholeNode) → IsWellFormed n → length (node_bytes n) < 2
 node_fits n formed = omega (arith, formed.few, few_bytes n.is_index n.pairs formed.keys formed.items)
 
 -- what is written behind what was written stands behind it
-put_behind : (out mid after x y : Bytes) (s t : ℕ) → t ≡ s + length x → t ≤ length out → IsPut out s x mid → IsPut mid t y after → IsPut out s (x ++ y) after
+pub put_behind : (out mid after x y : Bytes) (s t : ℕ) → t ≡ s + length x → t ≤ length out → IsPut out s x mid → IsPut mid t y after → IsPut out s (x ++ y) after
 put_behind out mid after x y s t is room first second =
     let len : length (take s out ++ x) ≡ t = omega (arith, is, room, length-append (take s out) x, length-take s out) in
     let front : take t mid ≡ take s out ++ x = ap (take t) first ∙ take_at (take s out ++ x) (drop (s + length x) out) t len in

@@ -7,10 +7,10 @@ use Rattle.std.specs.Option.{SomeIff}
 use Rattle.std.proofs.Math.Seq.{take-append_seam, drop-append_seam}
 use Rattle.std.proofs.lemmas.Bool.Decides.{nat_tests}
 use Rattle.std.proofs.lemmas.Nat.{from_le_bytes-to_le_bytes_4}
-use Rattle.sled_base.specs.Order.{Bytes}
+use Rattle.sled_base.specs.Order.{Bytes, IsBelow}
 use Rattle.sled_node.specs.Node.{Value, WholeNode, leaf_of}
-use Rattle.sled_node.specs.Pairs.{HasPairs, IsWithinLimit}
-use Rattle.sled_handle.specs.Pairs.{EncodeLeaf, EncodePairs, IsShort, pair_bytes}
+use Rattle.sled_node.specs.Pairs.{HasPairs, IsAscending, IsWithinLimit}
+use Rattle.sled_handle.specs.Pairs.{AreAbove, EncodeLeaf, EncodePairs, IsShort, pair_bytes}
 
 -- two numbers in four bytes each, with something behind them
 same_number : (a b : ℕ) (x y : Bytes) → a < 2 ^ 32 → b < 2 ^ 32 → to_le_bytes w32 a ++ x ≡ to_le_bytes w32 b ++ y → (a ≡ b) × (x ≡ y)
@@ -72,6 +72,23 @@ one_less left behind pair [] read encode = let e : [] ≡ pair_bytes pair ++ beh
 one_less left behind pair (q ∷ others) read encode =
     let front = same_pair pair q behind _ read.0 encode.0.0 (sym read.1 ∙ encode.1) in
     (others, (encode.0.1, front.1))
+
+-- If the pairs ascend, those behind the first are above it.
+pub one_less_ascending : (left behind : Bytes) (pair : Bytes × Bytes) (all : List (Bytes × Bytes)) → IsShort pair × (left ≡ pair_bytes pair ++ behind) → EncodePairs left all → IsAscending all
+    → (others : List (Bytes × Bytes)) × EncodePairs behind others × AreAbove pair.0 others
+one_less_ascending left behind pair [] read encode ascending = let e : [] ≡ pair_bytes pair ++ behind = sym encode.1 ∙ read.1 in cc
+one_less_ascending left behind pair (q ∷ others) read encode ascending =
+    let front = same_pair pair q behind _ read.0 encode.0.0 (sym read.1 ∙ encode.1) in
+    (others, (encode.0.1, front.1), subst (λ p. AreAbove p.0 others) (sym front.0) ascending)
+
+-- Of pairs above a key the first is above it, too.
+pub one_less_above : (left behind last : Bytes) (pair : Bytes × Bytes) (all : List (Bytes × Bytes)) → IsShort pair × (left ≡ pair_bytes pair ++ behind) → EncodePairs left all → AreAbove last all
+    → (others : List (Bytes × Bytes)) × IsBelow last pair.0 × EncodePairs behind others × AreAbove pair.0 others
+one_less_above left behind last pair [] read encode above = let e : [] ≡ pair_bytes pair ++ behind = sym encode.1 ∙ read.1 in cc
+one_less_above left behind last pair (q ∷ others) read encode above =
+    let front = same_pair pair q behind _ read.0 encode.0.0 (sym read.1 ∙ encode.1) in
+    let less = one_less_ascending left behind pair (q ∷ others) read encode above.1 in
+    (less.0, subst (λ p. IsBelow last p.0) (sym front.0) above.0.0, less.1, less.2)
 
 -- Where bytes are left and no pair stands in front, they are no pairs.
 pub no_pairs : (left : Bytes) → left ≢ [] → ((pair : Bytes × Bytes) → (behind : Bytes) → IsShort pair → left ≢ pair_bytes pair ++ behind) → (pairs : List (Bytes × Bytes)) → EncodePairs left pairs → ⊥

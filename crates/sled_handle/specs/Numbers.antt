@@ -4,6 +4,8 @@ use Rattle.sled_base.specs.Errors.{number_of_why, number_of_bug}
 use Rattle.sled_base.specs.declared.types.Device.TheVariants.{Read, Write}
 use Rattle.sled_base.specs.declared.types.Error.{Error}
 use Rattle.sled_base.specs.declared.types.Error.TheVariants.{CollectionNotFound, Unsupported, ReportableBug, Io, Corruption, OutOfMemory}
+use Rattle.sled_tree.specs.declared.error.TreeError.{TreeError}
+use Rattle.sled_tree.specs.declared.error.TreeError.TheVariants.{KeyTooLong, ValueTooLong, NoBatch, Cache}
 
 abbrev pub ok : ℕ
 ok = 0
@@ -38,6 +40,12 @@ index = 9
 abbrev pub not_over_file : ℕ
 not_over_file = 10
 
+abbrev pub key_too_long : ℕ
+key_too_long = 11
+
+abbrev pub value_too_long : ℕ
+value_too_long = 12
+
 abbrev pub memory : ℕ
 memory = 16
 
@@ -68,3 +76,9 @@ number_of_error (Io Read) = read
 number_of_error (Io Write) = write
 number_of_error (Corruption pointer) = corruption
 number_of_error OutOfMemory = memory
+
+abbrev pub number_of_tree_error : TreeError → ℕ
+number_of_tree_error KeyTooLong = key_too_long
+number_of_tree_error ValueTooLong = value_too_long
+number_of_tree_error NoBatch = no_batch
+number_of_tree_error (Cache error) = number_of_error error

@@ -2,9 +2,9 @@
 use Rattle.std.specs.Prelude.{◌≡◌, ◌<◌, ◌+◌, ◌^◌, ◌++◌, ℕ, false, List, length, map, take, drop}
 use Rattle.std.specs.Int.{w32, w64, to_le_bytes}
 use Rattle.std.specs.List.{AllByRecursion, flat_map}
-use Rattle.sled_base.specs.Order.{Bytes}
+use Rattle.sled_base.specs.Order.{Bytes, IsBelow}
 use Rattle.sled_node.specs.Node.{Item, Value, Child, WholeNode, leaf_of}
-use Rattle.sled_node.specs.Pairs.{HasPairs, IsWithinLimit}
+use Rattle.sled_node.specs.Pairs.{HasPairs, IsAscending, IsWithinLimit}
 
 abbrev pub pair_bytes : Bytes × Bytes → Bytes
 pair_bytes pair = to_le_bytes w32 (length pair.0) ++ (to_le_bytes w32 (length pair.1) ++ (pair.0 ++ pair.1))
@@ -16,6 +16,14 @@ IsShort pair = (length pair.0 < 2 ^ 32) × (length pair.1 < 2 ^ 32)
 -- the bytes are these pairs, one behind the other
 abbrev pub EncodePairs : Bytes → List (Bytes × Bytes) → Type 0
 EncodePairs bytes pairs = AllByRecursion IsShort pairs × (bytes ≡ flat_map pair_bytes pairs)
+
+-- Pairs that can be written: their lengths fit, and how many bytes they take is a number.
+abbrev pub AreWritable : List (Bytes × Bytes) → Type 0
+AreWritable pairs = AllByRecursion IsShort pairs × (length (flat_map pair_bytes pairs) < 2 ^ 64)
+
+-- each key is above this one, and above those before it
+abbrev pub AreAbove : Bytes → List (Bytes × Bytes) → Type 0
+AreAbove key pairs = AllByRecursion (λ later. IsBelow key later.0) pairs × IsAscending pairs
 
 -- The bytes are pairs of which a leaf can be made, and this is the leaf, over all keys.
 pub record EncodeLeaf (bytes : Bytes) (node : WholeNode) : Type 0 where

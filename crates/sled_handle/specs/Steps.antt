@@ -1,7 +1,9 @@
 -- Which step of the cache a call makes, over any log, and what its status tells of it.
-use Rattle.std.specs.Prelude.{◌≡◌, ℕ, Bool, false, [], Result, IfOk, IfErr, OnOk, ◌⊎◌}
+use Rattle.std.specs.Prelude.{◌≡◌, ◌-◌, ◌^◌, ℕ, Bool, false, [], Result, IfOk, IfErr, OnOk, ◌⊎◌, min}
 use Rattle.sled_base.specs.Order.{Bytes}
 use Rattle.sled_base.specs.declared.types.Error.{Error}
+use Rattle.sled_log.specs.LogState.{now}
+use Rattle.sled_log.specs.Messages.{effect_of_entry}
 use Rattle.sled_log.specs.declared.log.Log.{Ghosts}
 use Rattle.sled_node.specs.Node.{WholeNode}
 use Rattle.sled_node.specs.declared.node.link.Link.{Link}
@@ -10,6 +12,7 @@ use Rattle.sled_pagecache.specs.Batches.{OpensBatch}
 use Rattle.sled_pagecache.specs.Cache.{Cache}
 use Rattle.sled_pagecache.specs.Calls.{Steps, IsBlamed}
 use Rattle.sled_pagecache.specs.Moves.{AttemptsMove}
+use Rattle.sled_pagecache.specs.Sizes.{live_size}
 use Rattle.sled_pagecache.specs.State.{Token, token}
 use Rattle.sled_pagecache.specs.Step.{Swapped, RootSwap}
 use Rattle.sled_pagecache.specs.Trees.{IsTreeOpened, KeepsFault}
@@ -93,6 +96,11 @@ module _ {L : Type 0} (g : Ghosts L) (old new : Cache L) where
   abbrev pub TellsSize : ℕ → ℕ → ℕ → Type 0
   TellsSize status before after =
       (new ≡ old) × ((answer : Result ℕ Error) × Steps g old calls.SizeOnDisk (answers.Sized answer) new × IfOk answer (λ size. size ≡ g.bytes old.log) × Tells answer status before after)
+
+  -- it is told how much of the log makes the pages
+  abbrev pub TellsLive : ℕ → ℕ → Type 0
+  TellsLive status after =
+      (new ≡ old) × (status ≡ number.ok) × (g.tells → old.fault ≡ false → after ≡ min (live_size (now effect_of_entry (g.state old.log))) (2 ^ 64 - 1))
 
   -- the size of the log is told, and that of the pages
   abbrev pub TellsAmplification : ℕ → ℕ × ℕ → ℕ × ℕ → Type 0

@@ -30,6 +30,7 @@ pub mod status;
 pub mod store;
 pub mod through;
 
+pub use calls::maps::{Bounds, FoundPiece};
 pub use calls::pages::Found;
 pub use handle::Handle;
 pub use settings::{FileSettings, Settings};

@@ -4,20 +4,22 @@
 
 ghost use Rattle.std.specs.Prelude.{◌≡◌};
 ghost use Rattle.sled_base.specs.Errors.{error_of};
-ghost use Rattle.sled_handle.specs.Numbers.{number_of_error};
+ghost use Rattle.sled_handle.specs.Numbers.{number_of_error, number_of_tree_error};
 
 use sled_pagecache::{Device, Error, Refusal};
+use sled_tree::TreeError;
 
 /// The call did what it says.
 pub const OK: u32 = 0;
 
-/// The page has another stamp, or the name another root: it was written in place of the one that was given. Nothing changed.
+/// The page has another stamp, or the name another root: it was written in place of the one that was given. Or the key has another value, or
+/// none. Nothing changed.
 pub const STALE: u32 = 1;
 
 /// There is no such page: it was never allocated, or is free. Nothing changed.
 pub const GONE: u32 = 2;
 
-/// The name has no root, or the page no such key. Nothing changed.
+/// The name has no root, or the page or the map no such key; or there is no pair on that side of a bound, or no further name. Nothing changed.
 pub const NONE: u32 = 3;
 
 /// The buffer is too short, and nothing was written to it: how many bytes are needed was told.
@@ -29,7 +31,8 @@ pub const CLOSED: u32 = 5;
 /// A cache is open behind the handle, and stays.
 pub const ALREADY_OPEN: u32 = 6;
 
-/// The bytes encode no pairs that a leaf can hold: cut, not ascending, too long or too many. Nothing changed.
+/// The bytes encode no pairs that a leaf can hold: cut, not ascending, too long or too many. Or no bound or side has this number. Nothing
+/// changed.
 pub const ARGUMENTS: u32 = 7;
 
 /// No batch is open. Nothing changed.
@@ -41,7 +44,14 @@ pub const INDEX: u32 = 9;
 /// The call isn't made over a file, which is read and written by the program: it would move pages, or measure them all. Nothing changed.
 pub const NOT_OVER_FILE: u32 = 10;
 
-/// An allocation failed. Nothing changed, but for the pages that `dilluvas_open_tree` had made; the call may be made again.
+/// The key has more than 2^31 - 1 bytes. Nothing changed.
+pub const KEY_TOO_LONG: u32 = 11;
+
+/// The value has more than 2^31 - 1 bytes. Nothing changed.
+pub const VALUE_TOO_LONG: u32 = 12;
+
+/// An allocation failed. Nothing changed, but for the pages that `dilluvas_open_tree` had made, and for the map without a pair that
+/// `dilluvas_map_set` or `dilluvas_map_cas` had; the call may be made again.
 pub const MEMORY: u32 = 16;
 
 /// A read failed. Nothing changed; the call may be made again.
@@ -64,6 +74,9 @@ pub const NO_ACCESS: u32 = 33;
 
 /// Another process has the file open. As above.
 pub const HELD: u32 = 34;
+
+/// The disk has no room for the change, which was not begun. As above.
+pub const DISK_FULL: u32 = 35;
 
 /// The page is the cache's own.
 pub const RESERVED_ID: u32 = 101;
@@ -140,20 +153,35 @@ pub fn status_of_refusal(refusal: Refusal) -> u32
     status_of(&Error::from(refusal))
 }
 
+/// The number of an error of a map.
+pub fn status_of_tree(error: &TreeError) -> u32
+    ensures { result ≡ number_of_tree_error error.now }
+{
+    match error {
+        TreeError::KeyTooLong => KEY_TOO_LONG,
+        TreeError::ValueTooLong => VALUE_TOO_LONG,
+        TreeError::NoBatch => NO_BATCH,
+        TreeError::Cache(error) => status_of(error),
+    }
+}
+
 /// A text for a status, in English.
 pub fn text_of(status: u32) -> &'static str {
     match status {
         OK => "done",
-        STALE => "the page has another stamp, or the name another root",
+        STALE => "the page has another stamp, the name another root, or the key another value",
         GONE => "there is no such page",
-        NONE => "the name has no root, or the page no such key",
+        NONE => "there is no such key, root, name or pair",
         SHORT => "the buffer is too short",
         CLOSED => "no cache is open behind the handle",
         ALREADY_OPEN => "a cache is open behind the handle already",
-        ARGUMENTS => "the bytes encode no ascending pairs that a leaf can hold",
+        ARGUMENTS =>
+            "the bytes encode no ascending pairs that a leaf can hold, or a number stands for nothing",
         NO_BATCH => "no batch is open",
         INDEX => "the page is an index",
         NOT_OVER_FILE => "the call is not made over a file",
+        KEY_TOO_LONG => "the key has more than 2^31 - 1 bytes",
+        VALUE_TOO_LONG => "the value has more than 2^31 - 1 bytes",
         MEMORY => "an allocation failed",
         READ => "a read failed",
         WRITE => "a write failed",
@@ -162,6 +190,7 @@ pub fn text_of(status: u32) -> &'static str {
         NO_FILE => "it is a folder, or another thing that is no file",
         NO_ACCESS => "the file may not be read and written",
         HELD => "another process has the file open",
+        DISK_FULL => "the disk has no room for the change, and nothing was changed",
         RESERVED_ID => "the page is the cache's own",
         CAPACITY_TOO_SMALL => "the capacity of the cache is below 256",
         INTERVAL_ZERO => "the interval of ids is 0",

@@ -4,7 +4,7 @@
 //! a write or a sync of the file failed, NEEDS where bytes of the file are needed first, and NOT_OVER_FILE of a call that isn't made over one.
 //!
 //! - `opening`: opening a cache over a file, or its log alone
-//! - `pages`, `roots`, `batches`, `log`: as in `calls`
+//! - `pages`, `roots`, `batches`, `log`, `maps`: as in `calls`
 //! - `device`: what is asked of the disk of a file, and told it
 //! - `rewriting`: rewriting a cache into another log
 
@@ -39,6 +39,7 @@ macro_rules! in_memory {
 pub mod batches;
 pub mod device;
 pub mod log;
+pub mod maps;
 pub mod opening;
 pub mod pages;
 pub mod rewriting;

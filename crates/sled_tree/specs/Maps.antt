@@ -9,6 +9,8 @@ use Rattle.sled_pagecache.specs.Cache.{Cache}
 use Rattle.sled_pagecache.specs.State.{State, contents_of}
 use Rattle.sled_search.specs.Calls.{Becomes}
 use Rattle.sled_search.specs.Map.{Map, at_key}
+use Rattle.sled_search.specs.Search.{IsTreeOf}
+use Rattle.sled_tree.specs.Changed.{Reads}
 use Rattle.sled_tree.specs.Named.{Named, AreNamed, with_map_at}
 use Rattle.sled_tree.specs.Performs.{Performs}
 use Rattle.sled_tree.specs.Prefixes.{flushes}
@@ -74,3 +76,7 @@ pub record ChangesMap (root : ℕ) (Does : State → List (Event Update) → Sta
 -- Names and maps stay; and where that is answered, one of the calls of the cache was a flush that was done.
 abbrev pub FlushesMaps : {L T E : Type 0} → Ghosts L → Result T E → Cache L → Cache L → Type 0
 FlushesMaps g result old new = (does : Performs g KeepsMaps old new) × OnOk result (flushes does.calls ≡ true)
+
+-- What the map at a root has is read, and answered, whichever map that is.
+abbrev pub ReadsMap : {L T E : Type 0} → Ghosts L → Tree → (Map → T → Type 0) → Result T E → Cache L → Cache L → Type 0
+ReadsMap g tree Is result old new = Performs g (Reads result (λ pages answer. (m : Map) → IsTreeOf pages (root_of tree) m → Is m answer)) old new

@@ -1,4 +1,4 @@
-//! Calls of the maps by their names. A name that has no map is one of an empty map, and is given a map where something is to be set.
+//! Calls of the maps of a cache by their names. A name that has no map is one of an empty map, and is given a map where something is to be set.
 
 ghost use Rattle.std.specs.Prelude.{◌≡◌, [], IfErr, OnOk, unwrap_or, length};
 ghost use Rattle.std.specs.Option.{option_map};
@@ -14,7 +14,9 @@ ghost use Rattle.sled_tree.specs.Ordered.{behind, before, first_of, last_of, IsP
 ghost use Rattle.sled_tree.specs.Performs.{Performs};
 ghost use Rattle.sled_tree.specs.declared.error.TreeError.TheVariants.{KeyTooLong, ValueTooLong};
 
-use crate::{Error, IVec, Log, Piece, Tree, TreeError, Trees, Why};
+pub use crate::maps::names::drop_tree;
+use crate::maps::{names, ordered, values};
+use crate::{Error, IVec, Limits, Log, PageCache, Piece, Tree, TreeError, Why};
 use sled_pagecache::sled_node::node::MAX_BYTES;
 use std::alloc::Global;
 use std::ops::Bound;
@@ -42,35 +44,44 @@ pub fn check_value(value: &[u8]) -> Result<(), TreeError>
 }
 
 // The map of a name, which is made where there is none. A search in memory is all where there is one.
-fn tree_for<L: Log>(trees: &mut Trees<L>, name: &[u8]) -> Result<Tree, TreeError>
-    ensures maps { Performs L.Log (OpensMap root_of name.now result) trees.old trees.new }
+fn tree_for<L: Log>(alloc: Global, cache: &mut PageCache<L>, name: &[u8]) -> Result<Tree, TreeError>
+    ensures maps { Performs L.Log (OpensMap root_of name.now result) cache.old cache.new }
     ensures errors { IfErr result IsOfCache }
 {
-    match trees.get_tree(name)? {
+    match names::get_tree(cache, name)? {
         Some(tree) => Ok(tree),
-        None => tree_of_new(trees, name),
+        None => tree_of_new(alloc, cache, name),
     }
 }
 
 // A map that is made for a name. One that is too long is refused before anything is allocated for it.
-fn tree_of_new<L: Log>(trees: &mut Trees<L>, name: &[u8]) -> Result<Tree, TreeError>
-    ensures maps { Performs L.Log (OpensMap root_of name.now result) trees.old trees.new }
+fn tree_of_new<L: Log>(
+    alloc: Global,
+    cache: &mut PageCache<L>,
+    name: &[u8],
+) -> Result<Tree, TreeError>
+    ensures maps { Performs L.Log (OpensMap root_of name.now result) cache.old cache.new }
     ensures errors { IfErr result IsOfCache }
 {
     if name.len() > MAX_BYTES {
         return Err(TreeError::Cache(Error::Unsupported(Why::NameTooLong)));
     }
-    trees.open(name)
+    names::open(alloc, cache, name)
 }
 
 /// The value of a key.
-pub fn get<L: Log>(trees: &mut Trees<L>, name: &[u8], key: &[u8]) -> Result<Option<IVec>, TreeError>
+pub fn get<L: Log>(
+    alloc: Global,
+    cache: &mut PageCache<L>,
+    name: &[u8],
+    key: &[u8],
+) -> Result<Option<IVec>, TreeError>
     ensures value { Performs L.Log (Reads result (IsOfMap name.now
-        (λ m value. value ≡ at_key m key.now))) trees.old trees.new }
+        (λ m value. value ≡ at_key m key.now))) cache.old cache.new }
     ensures errors { IfErr result IsOfCache }
 {
-    match trees.get_tree(name)? {
-        Some(tree) => trees.get(tree, key),
+    match names::get_tree(cache, name)? {
+        Some(tree) => values::get(alloc, cache, tree, key),
         None => Ok(None),
     }
 }
@@ -79,34 +90,37 @@ pub fn get<L: Log>(trees: &mut Trees<L>, name: &[u8], key: &[u8]) -> Result<Opti
 ///
 /// `KeyTooLong` and `ValueTooLong` come before a map is made.
 pub fn set<L: Log>(
-    trees: &mut Trees<L>,
+    alloc: Global,
+    cache: &mut PageCache<L>,
+    limits: Limits,
     name: &[u8],
     key: &[u8],
     value: IVec,
 ) -> Result<Option<IVec>, TreeError>
-    ensures maps { SetsIn L.Log name.now key.now value result trees.old trees.new }
+    ensures maps { SetsIn L.Log name.now key.now value result cache.old cache.new }
     ensures errors { IfErr result (IsOfPair key.now value) }
 {
     check_key(key)?;
     check_value(value.as_slice())?;
-    let tree = tree_for(trees, name)?;
-    trees.insert(tree, key, value)
+    let tree = tree_for(alloc, cache, name)?;
+    values::insert(alloc, cache, limits, tree, key, value)
 }
 
 /// Takes a key out, and answers the value that it had.
 ///
 /// `KeyTooLong` comes before anything is read, whether or not there is a map.
 pub fn remove<L: Log>(
-    trees: &mut Trees<L>,
+    cache: &mut PageCache<L>,
+    limits: Limits,
     name: &[u8],
     key: &[u8],
 ) -> Result<Option<IVec>, TreeError>
-    ensures maps { TakesFrom L.Log name.now key.now result trees.old trees.new }
+    ensures maps { TakesFrom L.Log name.now key.now result cache.old cache.new }
     ensures errors { IfErr result (IsOfKey key.now) }
 {
     check_key(key)?;
-    match trees.get_tree(name)? {
-        Some(tree) => trees.remove(tree, key),
+    match names::get_tree(cache, name)? {
+        Some(tree) => values::remove(cache, limits, tree, key),
         None => Ok(None),
     }
 }
@@ -115,21 +129,23 @@ pub fn remove<L: Log>(
 ///
 /// `KeyTooLong` and `ValueTooLong` come before anything is read, and before a map is made.
 pub fn swap<L: Log>(
-    trees: &mut Trees<L>,
+    alloc: Global,
+    cache: &mut PageCache<L>,
+    limits: Limits,
     name: &[u8],
     key: &[u8],
     old: Option<&[u8]>,
     new: Option<IVec>,
 ) -> Result<Result<(), Option<IVec>>, TreeError>
     ensures maps { SwapsIn L.Log name.now key.now (option_map (λ old. old.now) old.entry) new result
-        trees.old trees.new }
+        cache.old cache.new }
     ensures errors { IfErr result (IsOfPair key.now (unwrap_or new [])) }
 {
     check_key(key)?;
     check_some(&new)?;
-    match trees.get_tree(name)? {
-        Some(tree) => trees.compare_and_swap(tree, key, old, new),
-        None => swap_in_new(trees, name, key, old, new),
+    match names::get_tree(cache, name)? {
+        Some(tree) => values::compare_and_swap(alloc, cache, limits, tree, key, old, new),
+        None => swap_in_new(alloc, cache, limits, name, key, old, new),
     }
 }
 
@@ -145,14 +161,16 @@ fn check_some(value: &Option<IVec>) -> Result<(), TreeError>
 
 // A swap where the name has no map: that has no value, and is made where the key is to have one.
 fn swap_in_new<L: Log>(
-    trees: &mut Trees<L>,
+    alloc: Global,
+    cache: &mut PageCache<L>,
+    limits: Limits,
     name: &[u8],
     key: &[u8],
     old: Option<&[u8]>,
     new: Option<IVec>,
 ) -> Result<Result<(), Option<IVec>>, TreeError>
     ensures maps { SwapsNone L.Log name.now key.now (option_map (λ old. old.now) old.entry) new
-        result trees.old trees.new }
+        result cache.old cache.new }
     ensures errors { IfErr result (IsOfPair key.now (unwrap_or new [])) }
 {
     if old.is_some() {
@@ -161,92 +179,98 @@ fn swap_in_new<L: Log>(
     let Some(value) = new else {
         return Ok(Ok(()));
     };
-    let tree = tree_of_new(trees, name)?;
-    trees.compare_and_swap(tree, key, None, Some(value))
+    let tree = tree_of_new(alloc, cache, name)?;
+    values::compare_and_swap(alloc, cache, limits, tree, key, None, Some(value))
 }
 
 /// The pair with the least key.
-pub fn first<L: Log>(trees: &mut Trees<L>, name: &[u8]) -> Result<Option<(IVec, IVec)>, TreeError>
+pub fn first<L: Log>(
+    cache: &mut PageCache<L>,
+    name: &[u8],
+) -> Result<Option<(IVec, IVec)>, TreeError>
     ensures pair { Performs L.Log (Reads result (IsOfMap name.now
-        (λ m pair. pair ≡ first_of m))) trees.old trees.new }
+        (λ m pair. pair ≡ first_of m))) cache.old cache.new }
     ensures errors { IfErr result IsOfCache }
 {
-    match trees.get_tree(name)? {
-        Some(tree) => trees.first(tree),
+    match names::get_tree(cache, name)? {
+        Some(tree) => ordered::first(cache, tree),
         None => Ok(None),
     }
 }
 
 /// The pair with the greatest key.
-pub fn last<L: Log>(trees: &mut Trees<L>, name: &[u8]) -> Result<Option<(IVec, IVec)>, TreeError>
+pub fn last<L: Log>(
+    cache: &mut PageCache<L>,
+    name: &[u8],
+) -> Result<Option<(IVec, IVec)>, TreeError>
     ensures pair { Performs L.Log (Reads result (IsOfMap name.now
-        (λ m pair. pair ≡ last_of m))) trees.old trees.new }
+        (λ m pair. pair ≡ last_of m))) cache.old cache.new }
     ensures errors { IfErr result IsOfCache }
 {
-    match trees.get_tree(name)? {
-        Some(tree) => trees.last(tree),
+    match names::get_tree(cache, name)? {
+        Some(tree) => ordered::last(cache, tree),
         None => Ok(None),
     }
 }
 
 /// The first pair behind the bound.
 pub fn next_above<L: Log>(
-    trees: &mut Trees<L>,
+    cache: &mut PageCache<L>,
     name: &[u8],
     bound: &Bound<IVec>,
 ) -> Result<Option<(IVec, IVec)>, TreeError>
     ensures pair { Performs L.Log (Reads result (IsOfMap name.now
-        (λ m pair. pair ≡ first_of (behind bound.now m)))) trees.old trees.new }
+        (λ m pair. pair ≡ first_of (behind bound.now m)))) cache.old cache.new }
     ensures errors { IfErr result IsOfCache }
 {
-    match trees.get_tree(name)? {
-        Some(tree) => trees.next_above(tree, bound),
+    match names::get_tree(cache, name)? {
+        Some(tree) => ordered::next_above(cache, tree, bound),
         None => Ok(None),
     }
 }
 
 /// The last pair before the bound.
 pub fn next_below<L: Log>(
-    trees: &mut Trees<L>,
+    cache: &mut PageCache<L>,
     name: &[u8],
     bound: &Bound<IVec>,
 ) -> Result<Option<(IVec, IVec)>, TreeError>
     ensures pair { Performs L.Log (Reads result (IsOfMap name.now
-        (λ m pair. pair ≡ last_of (before bound.now m)))) trees.old trees.new }
+        (λ m pair. pair ≡ last_of (before bound.now m)))) cache.old cache.new }
     ensures errors { IfErr result IsOfCache }
 {
-    match trees.get_tree(name)? {
-        Some(tree) => trees.next_below(tree, bound),
+    match names::get_tree(cache, name)? {
+        Some(tree) => ordered::next_below(cache, tree, bound),
         None => Ok(None),
     }
 }
 
 /// The pair with the next greater key.
 pub fn above<L: Log>(
-    trees: &mut Trees<L>,
+    cache: &mut PageCache<L>,
     name: &[u8],
     key: IVec,
 ) -> Result<Option<(IVec, IVec)>, TreeError> {
-    next_above(trees, name, &Bound::Excluded(key))
+    next_above(cache, name, &Bound::Excluded(key))
 }
 
 /// The pair with the next smaller key.
 pub fn below<L: Log>(
-    trees: &mut Trees<L>,
+    cache: &mut PageCache<L>,
     name: &[u8],
     key: IVec,
 ) -> Result<Option<(IVec, IVec)>, TreeError> {
-    next_below(trees, name, &Bound::Excluded(key))
+    next_below(cache, name, &Bound::Excluded(key))
 }
 
 /// How many pairs there are.
-pub fn count<L: Log>(trees: &mut Trees<L>, name: &[u8]) -> Result<u64, TreeError>
+pub fn count<L: Log>(cache: &mut PageCache<L>, name: &[u8]) -> Result<u64, TreeError>
     ensures pairs { Performs L.Log (Reads result (IsOfMap name.now
-        (λ m count. count ≡ length m))) trees.old trees.new }
+        (λ m count. count ≡ length m))) cache.old cache.new }
     ensures errors { IfErr result IsOfCache }
 {
-    match trees.get_tree(name)? {
-        Some(tree) => trees.len(tree),
+    match names::get_tree(cache, name)? {
+        Some(tree) => ordered::len(cache, tree),
         None => Ok(0),
     }
 }
@@ -254,17 +278,17 @@ pub fn count<L: Log>(trees: &mut Trees<L>, name: &[u8]) -> Result<u64, TreeError
 /// The pairs within two bounds that one leaf has, and where the others begin.
 pub fn range<L: Log>(
     alloc: Global,
-    trees: &mut Trees<L>,
+    cache: &mut PageCache<L>,
     name: &[u8],
     from: &Bound<IVec>,
     to: &Bound<IVec>,
 ) -> Result<Piece, TreeError>
     ensures pairs { Performs L.Log (Reads result (IsOfMap name.now
-        (λ m piece. IsPieceOf from.now to.now m piece))) trees.old trees.new }
+        (λ m piece. IsPieceOf from.now to.now m piece))) cache.old cache.new }
     ensures errors { IfErr result IsOfCache }
 {
-    match trees.get_tree(name)? {
-        Some(tree) => trees.range(tree, from, to),
+    match names::get_tree(cache, name)? {
+        Some(tree) => ordered::range(alloc, cache, tree, from, to),
         None => Ok(Piece {
             pairs: Vec::new(alloc),
             rest: None,
@@ -275,13 +299,17 @@ pub fn range<L: Log>(
 /// The first name of a map behind this one, by its bytes, or the first of all.
 ///
 /// All names are copied for that. Nothing is read from the log.
-pub fn next_name<L: Log>(trees: &Trees<L>, after: Option<&[u8]>) -> Result<Option<IVec>, TreeError>
+pub fn next_name<L: Log>(
+    alloc: Global,
+    cache: &PageCache<L>,
+    after: Option<&[u8]>,
+) -> Result<Option<IVec>, TreeError>
     ensures name { Performs L.Log (Reads result (λ pages name. (w : Named) → AreNamed pages w
         → name ≡ first_name (option_map (λ after. after.now) after.entry) (names_of w.names)))
-        trees.now trees.now }
+        cache.now cache.now }
     ensures errors { IfErr result IsOfCache }
 {
-    let names = trees.names()?;
+    let names = names::names(alloc, cache)?;
     match first_behind(&names, after) {
         Some(name) => Ok(Some(name.clone()?)),
         None => Ok(None),

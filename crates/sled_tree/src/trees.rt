@@ -20,7 +20,7 @@ use std::marker::Model;
 #[derive(Clone, Copy, Debug, PartialEq, Eq)]
 pub struct Tree {
     // the page of the map's root, which never moves
-    root: PageId,
+    pub(crate) root: PageId,
 }
 
 /// How many pairs a leaf may have, and how many children an index, before it is split.

@@ -2,7 +2,7 @@
 
 ghost use Rattle.std.specs.Prelude.{◌≡◌};
 ghost use Rattle.sled_handle.specs.Handles.{Through, ThroughMemory};
-ghost use Rattle.sled_handle.specs.Steps.{GivesId, MakesStable, MovesDue, TellsAmplification, TellsRecovered, TellsSize};
+ghost use Rattle.sled_handle.specs.Steps.{GivesId, MakesStable, MovesDue, TellsAmplification, TellsLive, TellsRecovered, TellsSize};
 
 use sled_handle::Handle;
 use sled_handle::status::CLOSED;
@@ -35,6 +35,15 @@ pub extern "C" fn dilluvas_raw_size(alloc: Global, handle: &mut Handle, bytes: &
         (λ _ g old new status. TellsSize g old new status bytes.old bytes.new) }
 {
     behind!(alloc, handle, store => through::size(store, bytes))
+}
+
+/// Writes how many bytes of the log the messages take that make the pages, at most `u64::MAX`.
+#[unsafe(no_mangle)]
+pub extern "C" fn dilluvas_raw_live(alloc: Global, handle: &mut Handle, bytes: &mut u64) -> u32
+    ensures { Through handle.old.store handle.new.store result (bytes.new ≡ bytes.old)
+        (λ _ g old new status. TellsLive g old new status bytes.new) }
+{
+    behind!(alloc, handle, store => through::live(store, bytes))
 }
 
 /// Writes how many bytes the log has, and how many the pages would take, at most `u64::MAX`.

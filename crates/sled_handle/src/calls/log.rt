@@ -2,7 +2,7 @@
 
 ghost use Rattle.std.specs.Prelude.{◌≡◌};
 ghost use Rattle.sled_handle.specs.Statuses.{capped};
-ghost use Rattle.sled_handle.specs.Steps.{GivesId, MakesStable, MovesDue, TellsAmplification, TellsRecovered, TellsSize};
+ghost use Rattle.sled_handle.specs.Steps.{GivesId, MakesStable, MovesDue, TellsAmplification, TellsLive, TellsRecovered, TellsSize};
 
 use crate::output::put_answer;
 use crate::status::{OK, status_of};
@@ -24,6 +24,13 @@ pub fn size<L: Log>(cache: &PageCache<L>, bytes: &mut u64) -> u32
     ensures { TellsSize L.Log cache.now cache.now result bytes.old bytes.new }
 {
     put_answer(cache.size_on_disk(), bytes)
+}
+
+pub fn live<L: Log>(cache: &PageCache<L>, bytes: &mut u64) -> u32
+    ensures { TellsLive L.Log cache.now cache.now result bytes.new }
+{
+    *bytes = cache.live_bytes();
+    OK
 }
 
 pub fn amplification<L: Log>(cache: &mut PageCache<L>, log: &mut u64, pages: &mut u64) -> u32

@@ -1,26 +1,69 @@
 //! Reading pairs.
 
-ghost use Rattle.std.specs.Prelude.{◌≡◌, ◌≢◌, ◌<◌, ◌^◌, ◌++◌, List, length, map, IfOk, IfSome, IfNone};
+ghost use Rattle.std.specs.Prelude.{◌≡◌, ◌≢◌, ◌<◌, ◌^◌, ◌++◌, false, List, length, map, IfOk, IfSome, IfNone};
 ghost use Rattle.std.specs.Int.{w32, to_le_bytes};
 ghost use Rattle.std.specs.Option.{SomeIff};
-ghost use Rattle.sled_base.specs.Order.{Bytes};
+ghost use Rattle.sled_base.specs.Order.{Bytes, is_below};
 ghost use Rattle.sled_node.specs.Node.{Value, WholeNode, leaf_of};
-ghost use Rattle.sled_node.specs.Pairs.{HasPairs, IsWithinLimit};
-ghost use Rattle.sled_handle.specs.Pairs.{EncodeLeaf, EncodePairs, IsShort, pair_bytes};
+ghost use Rattle.sled_node.specs.Pairs.{HasPairs, IsAscending, IsWithinLimit};
+ghost use Rattle.sled_handle.specs.Pairs.{AreAbove, EncodeLeaf, EncodePairs, IsShort, pair_bytes};
 
 use sled_pagecache::{Data, IVec, Leaf, Node};
 use std::alloc::{AllocError, Global};
 
-/// A leaf over all keys of the pairs that the bytes encode, or none where they encode none that a leaf can hold.
+/// A leaf over all keys of the pairs that the bytes encode, or none where they encode none that a leaf can hold. Memory for the pairs is taken
+/// where their keys ascend.
 pub fn leaf_in(alloc: Global, bytes: &[u8]) -> Result<Option<Node>, AllocError>
     ensures some { IfOk result (λ found. IfSome found (EncodeLeaf bytes.now)) }
     ensures none { IfOk result (λ found. IfNone found ((node : WholeNode)
         → ¬ EncodeLeaf bytes.now node)) }
 {
+    if !ascend(bytes) {
+        return Ok(None);
+    }
     let Some(pairs) = pairs_in(alloc, bytes)? else {
         return Ok(None);
     };
     leaf_of(alloc, pairs)
+}
+
+// Whether pairs fill the bytes, each with a key above that of the one before it. Nothing is allocated.
+fn ascend(bytes: &[u8]) -> bool
+    ensures { result ≡ false → (pairs : List (Bytes × Bytes)) → EncodePairs bytes.now pairs
+        → ¬ IsAscending pairs }
+{
+    if bytes.is_empty() {
+        return true;
+    }
+    let Some((first, _, behind)) = first_pair(bytes) else {
+        return false;
+    };
+    ascend_from(first, behind)
+}
+
+// The same where each key has to be above this one, too.
+fn ascend_from<'a>(first: &'a [u8], bytes: &'a [u8]) -> bool
+    ensures { result ≡ false → (pairs : List (Bytes × Bytes)) → EncodePairs bytes.now pairs
+        → ¬ AreAbove first.now pairs }
+{
+    let (mut last, mut left) = (first, bytes);
+    while !left.is_empty() {
+        let Some((key, _, behind)) = first_pair(left) else {
+            return false;
+        };
+        if !is_below(last, key) {
+            return false;
+        }
+        (last, left) = (key, behind);
+    }
+    true
+}
+
+// Whether the first bytes are below the second.
+fn is_below(left: &[u8], right: &[u8]) -> bool
+    ensures { result ≡ is_below left.now right.now }
+{
+    left.cmp(&right).is_lt()
 }
 
 // The leaf of these pairs over all keys, or none where a leaf can't hold them.

@@ -8,7 +8,7 @@ ghost use Rattle.sled_handle.specs.Pairs.{IsPut, IsShort, item_bytes, node_bytes
 use sled_pagecache::{Item, Node};
 
 // So many bytes stand before a key.
-const HEAD: usize = 8;
+pub(super) const HEAD: usize = 8;
 
 /// How many bytes the pairs of a node take.
 pub fn size_of_pairs(node: &Node) -> usize
@@ -87,7 +87,13 @@ fn put_item(front: &[u8], rest: &[u8], item: Item<'_>, out: &mut [u8], start: us
 }
 
 // The same of a value that stands alone.
-fn put_pair(front: &[u8], rest: &[u8], value: &[u8], out: &mut [u8], start: usize) -> usize
+pub(super) fn put_pair(
+    front: &[u8],
+    rest: &[u8],
+    value: &[u8],
+    out: &mut [u8],
+    start: usize,
+) -> usize
     requires short { IsShort (front.now ++ rest.now, value.now) }
     requires room { start + length (pair_bytes (front.now ++ rest.now, value.now))
         ≤ length out.old }
@@ -104,7 +110,7 @@ fn put_pair(front: &[u8], rest: &[u8], value: &[u8], out: &mut [u8], start: usiz
 }
 
 // Writes the bytes from a place on, where there is room for them, and answers where they end.
-fn put(bytes: &[u8], out: &mut [u8], start: usize) -> usize
+pub(super) fn put(bytes: &[u8], out: &mut [u8], start: usize) -> usize
     requires { start + length bytes.now ≤ length out.old }
     ensures end { result ≡ start + length bytes.now }
     ensures bytes { IsPut out.old start bytes.now out.new }

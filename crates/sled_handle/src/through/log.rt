@@ -2,7 +2,7 @@
 
 ghost use Rattle.std.specs.Prelude.{◌≡◌};
 ghost use Rattle.sled_handle.specs.Handles.{InMemory, ThroughStore};
-ghost use Rattle.sled_handle.specs.Steps.{GivesId, MakesStable, MovesDue, TellsAmplification, TellsRecovered, TellsSize};
+ghost use Rattle.sled_handle.specs.Steps.{GivesId, MakesStable, MovesDue, TellsAmplification, TellsLive, TellsRecovered, TellsSize};
 
 use crate::calls::log as calls;
 use crate::file::{has_failed, told};
@@ -33,6 +33,14 @@ pub fn size<F: CallersFile>(store: &mut Store<F>, bytes: &mut u64) -> u32
         (λ _ g old new status. TellsSize g old new status bytes.old bytes.new) }
 {
     through!(store, cache => calls::size(cache, bytes))
+}
+
+/// Writes how many bytes of the log the messages take that make the pages.
+pub fn live<F: CallersFile>(store: &mut Store<F>, bytes: &mut u64) -> u32
+    ensures { ThroughStore store.old store.new result (bytes.new ≡ bytes.old)
+        (λ _ g old new status. TellsLive g old new status bytes.new) }
+{
+    through!(store, cache => calls::live(cache, bytes))
 }
 
 /// Writes how many bytes the log has, and how many the pages would take, at most `u64::MAX`. It isn't made over a file.

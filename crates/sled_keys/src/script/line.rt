@@ -54,7 +54,7 @@ fn serve_words<L: Log, W: Write>(
     replies: &mut Replies<'_, W>,
 ) -> Result<(), RunError> {
     match command {
-        b"get" => serve_get(trees, rooms, words, replies),
+        b"get" => serve_get(alloc, trees, rooms, words, replies),
         b"set" => serve_set(alloc, trees, rooms, words, replies),
         b"del" => serve_del(trees, rooms, words, replies),
         b"cas" => serve_swap(alloc, trees, rooms, words, replies),

@@ -33,8 +33,8 @@ pub fn serve_end<L: Log, W: Write>(
         return refuse(replies);
     };
     match side {
-        Side::Above => reply_pair(&first(trees, name), replies),
-        Side::Below => reply_pair(&last(trees, name), replies),
+        Side::Above => reply_pair(&first(trees.cache_mut(), name), replies),
+        Side::Below => reply_pair(&last(trees.cache_mut(), name), replies),
     }
 }
 
@@ -58,8 +58,8 @@ pub fn serve_next<L: Log, W: Write>(
     };
     let key = IVec::from_slice(alloc, key)?;
     match side {
-        Side::Above => reply_pair(&above(trees, name, key), replies),
-        Side::Below => reply_pair(&below(trees, name, key), replies),
+        Side::Above => reply_pair(&above(trees.cache_mut(), name, key), replies),
+        Side::Below => reply_pair(&below(trees.cache_mut(), name, key), replies),
     }
 }
 
@@ -123,7 +123,7 @@ fn take_piece<L: Log>(
 ) -> Result<Option<IVec>, TreeError> {
     let piece = range(
         alloc,
-        trees,
+        trees.cache_mut(),
         name,
         &Bound::Included(from),
         &Bound::Unbounded,

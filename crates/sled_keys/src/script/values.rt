@@ -8,12 +8,13 @@ use crate::replies::Replies;
 use crate::words::{Rooms, bytes_of};
 use sled_lines::words::two_words;
 use sled_tree::named::{get, remove, set, swap};
-use sled_tree::{IVec, Log, TreeError, Trees};
+use sled_tree::{IVec, Limits, Log, TreeError, Trees};
 use std::alloc::{AllocError, Global};
 use std::io::Write;
 
 /// `get NAME KEY`
 pub fn serve_get<L: Log, W: Write>(
+    alloc: Global,
     trees: &mut Trees<L>,
     rooms: &mut Rooms,
     words: &[u8],
@@ -28,7 +29,12 @@ pub fn serve_get<L: Log, W: Write>(
     let Some(key) = bytes_of(key, &mut rooms.key)? else {
         return refuse(replies);
     };
-    reply_value(&get(trees, name, key), b"value ", b"none\n", replies)
+    reply_value(
+        &get(alloc, trees.cache_mut(), name, key),
+        b"value ",
+        b"none\n",
+        replies,
+    )
 }
 
 /// `del NAME KEY`
@@ -47,7 +53,12 @@ pub fn serve_del<L: Log, W: Write>(
     let Some(key) = bytes_of(key, &mut rooms.key)? else {
         return refuse(replies);
     };
-    reply_value(&remove(trees, name, key), b"was ", b"none\n", replies)
+    reply_value(
+        &remove(trees.cache_mut(), Limits::usual(), name, key),
+        b"was ",
+        b"none\n",
+        replies,
+    )
 }
 
 /// `set NAME KEY VALUE`
@@ -71,7 +82,12 @@ pub fn serve_set<L: Log, W: Write>(
         return refuse(replies);
     };
     let value = IVec::from_slice(alloc, value)?;
-    reply_value(&set(trees, name, key, value), b"was ", b"new\n", replies)
+    reply_value(
+        &set(alloc, trees.cache_mut(), Limits::usual(), name, key, value),
+        b"was ",
+        b"new\n",
+        replies,
+    )
 }
 
 /// `cas NAME KEY OLD NEW`
@@ -101,7 +117,18 @@ pub fn serve_swap<L: Log, W: Write>(
         return refuse(replies);
     };
     let new = owned(alloc, new)?;
-    reply_swap(&swap(trees, name, key, old, new), replies)
+    reply_swap(
+        &swap(
+            alloc,
+            trees.cache_mut(),
+            Limits::usual(),
+            name,
+            key,
+            old,
+            new,
+        ),
+        replies,
+    )
 }
 
 // The first two words, and all that stands behind the space after them.

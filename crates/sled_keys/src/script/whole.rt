@@ -20,7 +20,7 @@ pub fn serve_len<L: Log, W: Write>(
     let Some(name) = bytes_of(word, &mut rooms.name)? else {
         return refuse(replies);
     };
-    reply_number(&count(trees, name), b"len ", replies)
+    reply_number(&count(trees.cache_mut(), name), b"len ", replies)
 }
 
 /// `drop NAME`

@@ -1,10 +1,8 @@
 //! Maps by their names.
 
-ghost use Rattle.std.specs.Prelude.{◌≡◌, IfErr, IfOk};
-ghost use Rattle.sled_log.specs.Contents.{Content};
-ghost use Rattle.sled_node.specs.Meta as meta;
+ghost use Rattle.std.specs.Prelude.{◌≡◌, IfErr};
 ghost use Rattle.sled_tree.specs.Changed.{Reads};
-ghost use Rattle.sled_tree.specs.Dropping.{AreNamesOf, DropsMap, IsMapOf, IsRootOf, Unnames, names_of};
+ghost use Rattle.sled_tree.specs.Dropping.{AreNamesOf, DropsMap, IsMapOf};
 ghost use Rattle.sled_tree.specs.Errors.{IsOfCache};
 ghost use Rattle.sled_tree.specs.Maps.{root_of};
 ghost use Rattle.sled_tree.specs.Names.{OpensMap};
@@ -12,10 +10,8 @@ ghost use Rattle.sled_tree.specs.Performs.{Performs};
 
 use super::{Tree, Trees};
 use crate::error::TreeError;
-use crate::freeing::{free_all, pages_of};
-use sled_pagecache::sled_node::meta::Meta;
-use sled_pagecache::{Error, IVec, Log, PageCache, PageId, open_tree};
-use std::alloc::Global;
+use crate::maps::names;
+use sled_pagecache::{IVec, Log};
 
 impl<L: Log> Trees<L> {
     /// The map of this name, which is made, with nothing in it, where there is none.
@@ -25,9 +21,7 @@ impl<L: Log> Trees<L> {
         ensures maps { Performs L.Log (OpensMap root_of name.now result) self.old self.new }
         ensures errors { IfErr result IsOfCache }
     {
-        let name = IVec::from_slice(self.alloc, name)?;
-        let root = open_tree(&mut self.cache, name)?;
-        Ok(Tree { root })
+        names::open(self.alloc, &mut self.cache, name)
     }
 
     /// The map of this name, or none where there is none: nothing is made.
@@ -37,10 +31,7 @@ impl<L: Log> Trees<L> {
         ensures map { Performs L.Log (Reads result (IsMapOf name.now)) self.now self.now }
         ensures errors { IfErr result IsOfCache }
     {
-        match root_at(&self.cache, name)? {
-            Some(root) => Ok(Some(Tree { root })),
-            None => Ok(None),
-        }
+        names::get_tree(&self.cache, name)
     }
 
     /// The names of the maps, in their order.
@@ -50,7 +41,7 @@ impl<L: Log> Trees<L> {
         ensures names { Performs L.Log (Reads result AreNamesOf) self.now self.now }
         ensures errors { IfErr result IsOfCache }
     {
-        Ok(listed(self.alloc, &self.cache)?)
+        names::names(self.alloc, &self.cache)
     }
 
     /// Takes away the map of this name with all that it has, and answers whether there was one. Its tokens are of no map then: a call with
@@ -66,53 +57,6 @@ impl<L: Log> Trees<L> {
         ensures maps { Performs L.Log (DropsMap name.now result) self.old self.new }
         ensures errors { IfErr result IsOfCache }
     {
-        let Some(root) = root_at(&self.cache, name)? else {
-            return Ok(false);
-        };
-        let pages = pages_of(self.alloc, &mut self.cache, root)?;
-        unname(&mut self.cache, name, root)?;
-        free_all(&mut self.cache, &pages);
-        Ok(true)
-    }
-}
-
-// The names of the maps.
-fn listed<L: Log>(alloc: Global, cache: &PageCache<L>) -> Result<Vec<IVec>, Error>
-    ensures { Performs L.Log (Reads result AreNamesOf) cache.now cache.now }
-{
-    match cache.get_meta() {
-        Ok(view) => names_in(alloc, view.meta()),
-        Err(refusal) => Err(Error::from(refusal)),
-    }
-}
-
-fn names_in(alloc: Global, meta: &Meta) -> Result<Vec<IVec>, Error>
-    ensures { IfOk result (λ names. names.items ≡ names_of meta.now) }
-{
-    let roots = meta.tenants()?;
-    let mut names = Vec::new(alloc);
-    for name in roots.keys() {
-        names.push(IVec::from_slice(alloc, name.as_slice())?)?;
-    }
-    Ok(names)
-}
-
-// The root that the name has.
-fn root_at<L: Log>(cache: &PageCache<L>, name: &[u8]) -> Result<Option<PageId>, Error>
-    ensures { Performs L.Log (Reads result (IsRootOf name.now)) cache.now cache.now }
-{
-    match cache.get_meta() {
-        Ok(view) => Ok(view.meta().get_root(name)),
-        Err(refusal) => Err(Error::from(refusal)),
-    }
-}
-
-// Takes out the name, which has this root.
-fn unname<L: Log>(cache: &mut PageCache<L>, name: &[u8], root: PageId) -> Result<(), Error>
-    ensures { Performs L.Log (Unnames name.now root result) cache.old cache.new }
-{
-    match cache.cas_root_in_meta(name, Some(root), None)? {
-        Ok(()) => Ok(()),
-        Err(_) => Err(Error::Corruption(None)),
+        names::drop_tree(self.alloc, &mut self.cache, name)
     }
 }

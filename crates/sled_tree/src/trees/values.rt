@@ -2,39 +2,29 @@
 
 ghost use Rattle.std.specs.Prelude.{◌≡◌, ◌⊎◌, [], IfErr, IsErrOf, unwrap_or};
 ghost use Rattle.std.specs.Option.{is_some, option_map};
-ghost use Rattle.sled_search.specs.Map.{Map, at_key};
-ghost use Rattle.sled_search.specs.Search.{IsTreeOf};
-ghost use Rattle.sled_tree.specs.Changed.{Reads};
+ghost use Rattle.sled_search.specs.Map.{at_key};
 ghost use Rattle.sled_tree.specs.Errors.{IsOfCache, IsOfKey, IsOfPair, IsTooLong};
-ghost use Rattle.sled_tree.specs.Maps.{ChangesMap, SetsKey, SwapsKey, TakesKey, root_of};
+ghost use Rattle.sled_tree.specs.Maps.{ChangesMap, ReadsMap, SetsKey, SwapsKey, TakesKey, root_of};
 ghost use Rattle.sled_tree.specs.Performs.{Performs};
 ghost use Rattle.sled_tree.specs.declared.error.TreeError.TheVariants.{KeyTooLong, ValueTooLong};
 
 use super::{Tree, Trees};
 use crate::error::TreeError;
-use crate::merging::merge_few;
-use crate::place::{delete, place_for, set};
-use crate::room::room_for;
-use crate::swap::{set_where, take_where};
-use crate::walk::value_for;
-use sled_pagecache::sled_node::node::MAX_BYTES;
+use crate::maps::values;
 use sled_pagecache::{IVec, Log};
 
 impl<L: Log> Trees<L> {
     /// The value of a key, if it has one. Nothing is written.
     pub fn get(&mut self, tree: Tree, key: &[u8]) -> Result<Option<IVec>, TreeError>
-        ensures value { Performs L.Log (Reads result (λ pages value. (m : Map)
-            → IsTreeOf pages (root_of tree) m → value ≡ at_key m key.now)) self.old self.new }
+        ensures value { ReadsMap L.Log tree (λ m value. value ≡ at_key m key.now) result self.old self.new }
         ensures errors { IfErr result IsOfCache }
     {
-        Ok(value_for(self.alloc, &mut self.cache, tree.root, key)?)
+        values::get(self.alloc, &mut self.cache, tree, key)
     }
 
     /// Whether a key has a value. Nothing is written.
     pub fn contains_key(&mut self, tree: Tree, key: &[u8]) -> Result<bool, TreeError>
-        ensures there { Performs L.Log (Reads result (λ pages there. (m : Map)
-            → IsTreeOf pages (root_of tree) m → there ≡ is_some (at_key m key.now))) self.old
-            self.new }
+        ensures there { ReadsMap L.Log tree (λ m there. there ≡ is_some (at_key m key.now)) result self.old self.new }
         ensures errors { IfErr result IsOfCache }
     {
         Ok(self.get(tree, key)?.is_some())
@@ -52,14 +42,7 @@ impl<L: Log> Trees<L> {
             × (self.new ≡ self.old) }
         ensures errors { IfErr result (IsOfPair key.now value) }
     {
-        if key.len() > MAX_BYTES {
-            return Err(TreeError::KeyTooLong);
-        }
-        if value.len() > MAX_BYTES {
-            return Err(TreeError::ValueTooLong);
-        }
-        let place = room_for(self.alloc, &mut self.cache, tree.root, key, self.limits)?;
-        Ok(set(&mut self.cache, place, value)?)
+        values::insert(self.alloc, &mut self.cache, self.limits, tree, key, value)
     }
 
     /// Takes a key out, and answers the value that it had.
@@ -75,17 +58,7 @@ impl<L: Log> Trees<L> {
         ensures key { IsTooLong key.now → IsErrOf result KeyTooLong × (self.new ≡ self.old) }
         ensures errors { IfErr result (IsOfKey key.now) }
     {
-        if key.len() > MAX_BYTES {
-            return Err(TreeError::KeyTooLong);
-        }
-        let place = place_for(&mut self.cache, tree.root, key)?;
-        if place.value.is_none() {
-            return Ok(None);
-        }
-        let leaf = place.token.pid();
-        let before = delete(&mut self.cache, place)?;
-        merge_few(&mut self.cache, tree.root, leaf, key, self.limits);
-        Ok(before)
+        values::remove(&mut self.cache, self.limits, tree, key)
     }
 
     /// Sets the value of a key, or takes it out, where it has the old value, or none. Where it has another one, or none, that comes back,
@@ -106,16 +79,14 @@ impl<L: Log> Trees<L> {
             ⊎ IsErrOf result ValueTooLong) × (self.new ≡ self.old) }
         ensures errors { IfErr result (IsOfPair key.now (unwrap_or new [])) }
     {
-        if key.len() > MAX_BYTES {
-            return Err(TreeError::KeyTooLong);
-        }
-        let Some(value) = new else {
-            return Ok(take_where(&mut self.cache, tree.root, key, old, self.limits)?);
-        };
-        if value.len() > MAX_BYTES {
-            return Err(TreeError::ValueTooLong);
-        }
-        let (alloc, limits) = (self.alloc, self.limits);
-        Ok(set_where(alloc, &mut self.cache, tree.root, key, old, value, limits)?)
+        values::compare_and_swap(
+            self.alloc,
+            &mut self.cache,
+            self.limits,
+            tree,
+            key,
+            old,
+            new,
+        )
     }
 }

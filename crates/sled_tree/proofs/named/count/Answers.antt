@@ -8,6 +8,6 @@ use Rattle.sled_tree.proofs.named.count.Goals as goal
 
 pub returns-in-Some-clause-pairs : goal.returns-in-Some-clause-pairs
 returns-in-Some-clause-pairs g c =
-    let here = c.args.trees.now in
+    let here = c.args.cache.now in
     let found : Performs g.L.Log (Reads {E = TreeError} (Ok (Some c.in-Some.tree)) (IsMapOf c.args.name.now)) here here = rw c.in-Some.is at c.in_ok-tree.ensures.map in
-    reads-found g.L.Log c.args.name.now {E = TreeError} (λ m count. count ≡ length m) c.in-Some.tree c.len.result here c.len.new.self found c.len.ensures.count
+    reads-found g.L.Log c.args.name.now {E = TreeError} (λ m count. count ≡ length m) c.in-Some.tree c.len.result here c.len.new.cache found c.len.ensures.count
