@@ -7,9 +7,9 @@ top=$(CDPATH='' cd -- "$(dirname -- "$0")/.." && pwd)
 cd "$top"
 work=$(mktemp -d)
 # the file of these programs
-trap 'rm -rf "$work" pages' EXIT
+trap 'rm -rf "$work" fruit.db' EXIT
 trap 'exit 1' HUP INT PIPE TERM
-[ ! -e pages ] || { echo 'readme.sh: there is a file pages, which the programs of the README make'; exit 1; }
+[ ! -e fruit.db ] || { echo 'readme.sh: there is a file fruit.db, which the programs of the README make'; exit 1; }
 status=0
 
 # NUMBER.command for each command, and NUMBER.replies for what is below it

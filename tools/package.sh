@@ -45,14 +45,29 @@ fill() {
     sed "s/@VERSION@/$version/g" "$1" >"$made/$2"
 }
 
+# The command for files of maps, where there is a cargo that builds it.
+put_command() {
+    if ! command -v cargo >/dev/null; then
+        echo 'package.sh: there is no cargo, so the archive has no command for files of maps' >&2
+        return
+    fi
+    DILLUVAS_LIB_DIR=$top/bindings/out CARGO_TARGET_DIR=$top/bindings/out/target \
+        cargo build -q --release --offline --manifest-path bindings/rust/Cargo.toml --bin dilluvas || fail 'cargo could not build the command'
+    cp bindings/out/target/release/dilluvas "$made/libexec/dilluvas/command"
+}
+
 mkdir "$made"
-put crates/sledpc/out/sledpc crates/dilluvas/out/dilluvas bin
+put crates/sledpc/out/sledpc bin
+put crates/dilluvas/out/dilluvas libexec/dilluvas
+mv "$made/libexec/dilluvas/dilluvas" "$made/libexec/dilluvas/script"
+cp tools/release/dilluvas.sh "$made/bin/dilluvas"
+put_command
 put bindings/out/dilluvas.h bindings/out/dilluvas_file.h include
 put bindings/out/libdilluvas.a bindings/out/libdilluvas.so lib
 put bindings/out/dilluvas_file.c share/dilluvas
 put bindings/c/readme.c bindings/python/readme.py examples
 put bindings/rust/Cargo.toml bindings/rust/Cargo.lock bindings/rust/build.rs rust
-put bindings/rust/examples/readme.rs bindings/rust/examples/key_value.rs rust/examples
+put bindings/rust/examples/readme.rs bindings/rust/examples/key_value.rs bindings/rust/examples/job_queue.rs rust/examples
 cp -R bindings/rust/src "$made/rust/src"
 put LICENSE out/gate/PROVED .
 mkdir "$made/lib/pkgconfig" "$made/python"
@@ -61,7 +76,7 @@ fill tools/release/README.md README.md
 python3 tools/release/wheel.py "$version" bindings/out/libdilluvas.so "$made/python"
 find "$made" -type d -exec chmod 755 {} +
 find "$made" -type f -exec chmod 644 {} +
-chmod 755 "$made/bin/sledpc" "$made/bin/dilluvas" "$made/lib/libdilluvas.so"
+chmod 755 "$made"/bin/* "$made"/libexec/dilluvas/* "$made/lib/libdilluvas.so"
 (cd "$made" && find . -type f ! -name SUMS -exec sha256sum {} + | LC_ALL=C sort -k 2 >"$work/SUMS" && mv "$work/SUMS" SUMS)
 tools/release/archive.sh "$work" "$name" >"$work/tar"
 gzip -n -9 "$work/tar"

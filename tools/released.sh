@@ -35,23 +35,26 @@ path_without_rt() {
     done
 }
 
-# says NAME: what a program has printed is what README says of it.
+# what the programs in Rust and Python print
+both=$(printf 'fig = violet\nlime = green')
+
+# says NAME TEXT: what a program has printed is what README says of it.
 says() {
-    [ "$(cat said)" = 'key = value' ] || fail "README's program in $1 prints otherwise: $(cat said)"
-    rm -f pages
+    [ "$(cat said)" = "$2" ] || fail "README's program in $1 prints otherwise: $(cat said)"
+    rm -f fruit.db
     tried="$tried $1"
 }
 
 in_c() {
     "${CC:-cc}" -I"$to/include" -o readme "$top/bindings/c/readme.c" "$to/share/dilluvas/dilluvas_file.c" "$to/lib/libdilluvas.a"
     ./readme >said
-    says C
+    says C 'lime = green'
     if command -v pkg-config >/dev/null; then
         export PKG_CONFIG_PATH="$to/lib/pkgconfig"
         # shellcheck disable=SC2046 # several words
         "${CC:-cc}" -o readme "$top/bindings/c/readme.c" "$(pkg-config --variable=file_c dilluvas)" $(pkg-config --cflags --libs dilluvas)
         LD_LIBRARY_PATH=$to/lib ./readme >said
-        says pkg-config
+        says pkg-config 'lime = green'
     fi
 }
 
@@ -60,17 +63,17 @@ in_rust() {
     cp "$top/bindings/rust/examples/readme.rs" program/src/main.rs
     printf '[package]\nname = "program"\nversion = "0.0.0"\nedition = "2024"\n\n[dependencies]\ndilluvas = { path = "%s/rust" }\n' "$to" >program/Cargo.toml
     CARGO_TARGET_DIR=$work/target cargo run -q --offline --manifest-path program/Cargo.toml >said
-    says Rust
+    says Rust "$both"
 }
 
 in_python() {
     python3 -m zipfile -e "$to"/python/dilluvas-*.whl site
     PYTHONPATH=$work/site python3 "$top/bindings/python/readme.py" >said
-    says Python
+    says Python "$both"
     if python3 -m pip --version >/dev/null 2>&1; then
         python3 -m pip install -q --no-cache-dir --no-index --no-deps --disable-pip-version-check --root-user-action ignore --target installed "$to"/python/dilluvas-*.whl
         PYTHONPATH=$work/installed python3 "$top/bindings/python/readme.py" >said
-        says pip
+        says pip "$both"
     fi
 }
 
@@ -89,6 +92,9 @@ printf 'alloc 61=62\nflush\n' | "$to/bin/sledpc" file pages.log >said
 [ "$(echo 'get 2' | "$to/bin/sledpc" file pages.log)" = 'leaf 0 61=62' ] || fail 'what was flushed is not there'
 printf 'set fruit lime green\nflush\n' | "$to/bin/dilluvas" fruit.maps >said
 [ "$(echo 'get fruit lime' | "$to/bin/dilluvas" fruit.maps)" = 'value green' ] || fail 'a pair that was flushed is not there'
+if [ -x "$to/libexec/dilluvas/command" ]; then
+    [ "$("$to/bin/dilluvas" fruit.maps get fruit lime)" = green ] || fail 'the command does not find the pair'
+fi
 
 tried=' the program'
 for tool in "${CC:-cc}" cargo python3; do

@@ -1,7 +1,11 @@
-/* Dilluvas: a page cache for embedded stores, whose calls are proved to do what its contracts say.
+/* Dilluvas: ordered maps over a page cache for embedded stores, whose calls are proved to do what its contracts say.
+ *
+ * A map keeps pairs of a key and a value, which are byte strings, in the order of the keys by their bytes. It is named by any bytes in each
+ * call: dilluvas_map_set sets a value, and dilluvas_map_get gets it. Maps are kept in pages.
  *
  * A cache keeps pages, which are named by numbers. A page holds pairs of a key and a value, which are byte strings, and has a stamp that
- * each change raises by one: a change names the stamp that it expects, and is refused where the page has another one.
+ * each change raises by one: a change names the stamp that it expects, and is refused where the page has another one. A program that
+ * keeps maps needs none of that, and one that changes the pages of a map by their numbers breaks the map.
  *
  * Every call answers a status and returns, whatever numbers, lengths, bytes and null pointers it is given. None of them aborts, and none
  * prints. A call whose answer isn't DILLUVAS_OK leaves every page, stamp and name as it was, and what it would have written into the
@@ -39,16 +43,19 @@ typedef uint32_t dilluvas_status;
 
 enum {
     DILLUVAS_OK = 0,           /* The call did what it says. */
-    DILLUVAS_STALE = 1,        /* The page has another stamp, or the name another root, which was written in place of the one given. */
+    DILLUVAS_STALE = 1,        /* The page has another stamp, or the name another root, which was written in place of the one given; or the
+                                * key has another value. */
     DILLUVAS_GONE = 2,         /* There is no such page: it was never allocated, or is free. */
-    DILLUVAS_NONE = 3,         /* The name has no root, or the page no such key. */
+    DILLUVAS_NONE = 3,         /* There is no such key, root, name or pair. */
     DILLUVAS_SHORT = 4,        /* The buffer is too short, and nothing was written to it: how many bytes are needed was. */
     DILLUVAS_NOT_OPEN = 5,     /* No cache is open behind the handle. */
     DILLUVAS_ALREADY_OPEN = 6, /* A cache is open behind the handle, and stays. */
-    DILLUVAS_ARGUMENTS = 7,    /* A pointer is null, or the bytes encode no pairs that a leaf can hold. */
+    DILLUVAS_ARGUMENTS = 7,    /* A pointer is null, the bytes encode no pairs that a leaf can hold, or a number names no bound or side. */
     DILLUVAS_NO_BATCH = 8,     /* No batch is open. */
     DILLUVAS_INDEX = 9,        /* The page is an index, whose pairs have no values. */
     DILLUVAS_NOT_OVER_FILE = 10, /* The call isn't made over a file. */
+    DILLUVAS_KEY_TOO_LONG = 11,   /* The key has 2^31 bytes or more. */
+    DILLUVAS_VALUE_TOO_LONG = 12, /* The value has 2^31 bytes or more. */
 
     DILLUVAS_MEMORY = 16,     /* An allocation failed. The call may be made again. */
     DILLUVAS_READ = 17,       /* A read failed. The call may be made again. No cache in memory answers so. */
@@ -56,10 +63,11 @@ enum {
     DILLUVAS_CORRUPTION = 19, /* No cache wrote the messages of the page, or the bytes of the file. None in memory answers so. */
     DILLUVAS_NEEDS = 20,      /* Bytes of the file are needed: the call is made again with them. No cache in memory answers so. */
 
-    /* What dilluvas_file_open of dilluvas_file.h says of a file, and no call of this header, */
+    /* What dilluvas_file.h says of a file, and no call of this header, */
     DILLUVAS_NO_FILE = 32,   /* It is a folder, or another thing that is no file. */
     DILLUVAS_NO_ACCESS = 33, /* The file may not be read and written, or can't be made. */
     DILLUVAS_HELD = 34,      /* Another process has the file open, or this one has. */
+    DILLUVAS_DISK_FULL = 35, /* The disk has no room for the change, which was not begun. */
 
     /* what isn't supported, behind 100, */
     DILLUVAS_RESERVED_ID = 101,        /* The page is the cache's own: 0, 1 or 2^64 - 667. */
@@ -135,6 +143,31 @@ typedef struct dilluvas_found {
     bool is_index;  /* the page is an index: the value of each pair is a page, in 8 bytes, the lowest first */
 } dilluvas_found;
 
+/* The kinds of a bound. */
+enum {
+    DILLUVAS_INCLUDED = 0, /* the key and what is on its inner side */
+    DILLUVAS_EXCLUDED = 1, /* what is on its inner side alone */
+    DILLUVAS_UNBOUNDED = 2 /* no bound: the key isn't looked at */
+};
+
+/* Where dilluvas_map_next looks for a pair. */
+enum {
+    DILLUVAS_ABOVE = 0, /* the next greater key */
+    DILLUVAS_FROM = 1,  /* the key itself, or the next greater one */
+    DILLUVAS_BELOW = 2, /* the next smaller key */
+    DILLUVAS_UP_TO = 3, /* the key itself, or the next smaller one */
+    DILLUVAS_FIRST = 4, /* the least key of the map: no bound is looked at */
+    DILLUVAS_LAST = 5   /* the greatest one, likewise */
+};
+
+/* What dilluvas_map_range tells of a piece of a map beside its pairs. */
+typedef struct dilluvas_piece {
+    size_t count;     /* how many pairs there are */
+    size_t pairs_len; /* how many bytes they take */
+    size_t rest_len;  /* how many bytes the key has from which on the others are */
+    bool more;        /* whether there are others: that key may have no bytes */
+} dilluvas_piece;
+
 /* ---- The library's functions, whose pointers aren't null unless the length beside them is 0. Call those below them. */
 
 dilluvas_status dilluvas_raw_open_memory(dilluvas *d, const dilluvas_settings *settings);
@@ -161,12 +194,31 @@ dilluvas_status dilluvas_raw_free(dilluvas *d, uint64_t page, uint64_t *stamp);
 dilluvas_status dilluvas_raw_root(dilluvas *d, const uint8_t *name, size_t name_len, uint64_t *page);
 dilluvas_status dilluvas_raw_cas_root(dilluvas *d, const uint8_t *name, size_t name_len, uint64_t *root, uint64_t next);
 dilluvas_status dilluvas_raw_open_tree(dilluvas *d, const uint8_t *name, size_t name_len, uint64_t *page);
+dilluvas_status dilluvas_raw_map_get(dilluvas *d, const uint8_t *name, size_t name_len, const uint8_t *key, size_t key_len, uint8_t *buffer,
+                                     size_t room, size_t *needed);
+dilluvas_status dilluvas_raw_map_set(dilluvas *d, const uint8_t *name, size_t name_len, const uint8_t *key, size_t key_len,
+                                     const uint8_t *value, size_t value_len, bool *had);
+dilluvas_status dilluvas_raw_map_del(dilluvas *d, const uint8_t *name, size_t name_len, const uint8_t *key, size_t key_len, bool *had);
+dilluvas_status dilluvas_raw_map_cas(dilluvas *d, const uint8_t *name, size_t name_len, const uint8_t *key, size_t key_len, bool has_old,
+                                     const uint8_t *old_value, size_t old_len, bool has_new, const uint8_t *new_value, size_t new_len);
+dilluvas_status dilluvas_raw_map_next(dilluvas *d, const uint8_t *name, size_t name_len, uint32_t side, const uint8_t *bound,
+                                      size_t bound_len, uint8_t *buffer, size_t room, size_t *needed);
+dilluvas_status dilluvas_raw_map_range(dilluvas *d, const uint8_t *name, size_t name_len, uint32_t from_kind, const uint8_t *from,
+                                       size_t from_len, uint32_t to_kind, const uint8_t *to, size_t to_len, uint8_t *buffer, size_t room,
+                                       dilluvas_piece *piece);
+dilluvas_status dilluvas_raw_map_count(dilluvas *d, const uint8_t *name, size_t name_len, uint32_t from_kind, const uint8_t *from,
+                                       size_t from_len, uint32_t to_kind, const uint8_t *to, size_t to_len, uint8_t *buffer, size_t room,
+                                       dilluvas_piece *piece);
+dilluvas_status dilluvas_raw_map_drop(dilluvas *d, const uint8_t *name, size_t name_len, bool *had);
+dilluvas_status dilluvas_raw_map_name(dilluvas *d, bool has_after, const uint8_t *after, size_t after_len, uint8_t *buffer, size_t room,
+                                      size_t *needed);
 dilluvas_status dilluvas_raw_generate_id(dilluvas *d, uint64_t *id);
 dilluvas_status dilluvas_raw_pin(dilluvas *d);
 dilluvas_status dilluvas_raw_seal(dilluvas *d);
 dilluvas_status dilluvas_raw_cancel(dilluvas *d);
 dilluvas_status dilluvas_raw_flush(dilluvas *d, size_t *written);
 dilluvas_status dilluvas_raw_size(dilluvas *d, uint64_t *bytes);
+dilluvas_status dilluvas_raw_live(dilluvas *d, uint64_t *bytes);
 dilluvas_status dilluvas_raw_amp(dilluvas *d, uint64_t *log, uint64_t *pages);
 dilluvas_status dilluvas_raw_gc(dilluvas *d, bool *moved);
 dilluvas_status dilluvas_raw_was_recovered(dilluvas *d, bool *recovered);
@@ -263,6 +315,114 @@ static inline dilluvas_status dilluvas_forget(dilluvas *d) {
 static inline dilluvas_status dilluvas_failed(dilluvas *d) {
     if (!d) return DILLUVAS_ARGUMENTS;
     return dilluvas_raw_failed(d);
+}
+
+/* ---- Maps. Each call from here on answers NOT_OPEN where the handle is closed, and WRITE where a write failed, now or earlier. Over a file
+ * each call of a map answers NEEDS, and is made again with the bytes.
+ *
+ * A map is named by any bytes, and so is its key. A name that has no map is one of an empty map, and is given a map where a value is set.
+ * A map whose keys were all taken out is there until it is dropped. Each call of a map answers CORRUPTION where the pages that the name leads
+ * to hold no map, and MEMORY. */
+
+/* Writes the value of a key into a buffer of `room` bytes, and its bytes to `needed`.
+ *
+ * Answers SHORT, where `needed` is written; NONE where the key has no value; READ. */
+static inline dilluvas_status dilluvas_map_get(dilluvas *d, const uint8_t *name, size_t name_len, const uint8_t *key, size_t key_len,
+                                               uint8_t *buffer, size_t room, size_t *needed) {
+    if (!d || !dilluvas_are_bytes(name, name_len) || !dilluvas_are_bytes(key, key_len) || !dilluvas_are_bytes(buffer, room) || !needed)
+        return DILLUVAS_ARGUMENTS;
+    return dilluvas_raw_map_get(d, name, name_len, key, key_len, buffer, room, needed);
+}
+
+/* Sets the value of a key, and writes to `had` whether it had one before.
+ *
+ * Answers KEY_TOO_LONG and VALUE_TOO_LONG; NAME_TOO_LONG and TOO_MANY_NAMES where the name has no map; PAGES_USED_UP, STAMP_USED_UP,
+ * LOG_FULL, MEMORY and READ: no pair changes then, but the name may have been given its map. */
+static inline dilluvas_status dilluvas_map_set(dilluvas *d, const uint8_t *name, size_t name_len, const uint8_t *key, size_t key_len,
+                                               const uint8_t *value, size_t value_len, bool *had) {
+    if (!d || !dilluvas_are_bytes(name, name_len) || !dilluvas_are_bytes(key, key_len) || !dilluvas_are_bytes(value, value_len) || !had)
+        return DILLUVAS_ARGUMENTS;
+    return dilluvas_raw_map_set(d, name, name_len, key, key_len, value, value_len, had);
+}
+
+/* Takes a key out, and writes to `had` whether it had a value. A page that has few pairs left goes into one beside it; where that can't be
+ * done now, as over a file of which more bytes were needed, it is left for a later removal.
+ *
+ * Answers KEY_TOO_LONG; STAMP_USED_UP, LOG_FULL, READ. */
+static inline dilluvas_status dilluvas_map_del(dilluvas *d, const uint8_t *name, size_t name_len, const uint8_t *key, size_t key_len,
+                                               bool *had) {
+    if (!d || !dilluvas_are_bytes(name, name_len) || !dilluvas_are_bytes(key, key_len) || !had) return DILLUVAS_ARGUMENTS;
+    return dilluvas_raw_map_del(d, name, name_len, key, key_len, had);
+}
+
+/* Sets the value of a key to the new one, or takes the key out where `has_new` is false, if its value is the old one, or if it has none and
+ * `has_old` is false. The bytes of a value that there isn't are not looked at.
+ *
+ * Answers STALE where the key has another value, or none, and as dilluvas_map_set does. */
+static inline dilluvas_status dilluvas_map_cas(dilluvas *d, const uint8_t *name, size_t name_len, const uint8_t *key, size_t key_len,
+                                               bool has_old, const uint8_t *old_value, size_t old_len, bool has_new,
+                                               const uint8_t *new_value, size_t new_len) {
+    if (!d || !dilluvas_are_bytes(name, name_len) || !dilluvas_are_bytes(key, key_len) || !dilluvas_are_bytes(old_value, old_len) ||
+        !dilluvas_are_bytes(new_value, new_len))
+        return DILLUVAS_ARGUMENTS;
+    return dilluvas_raw_map_cas(d, name, name_len, key, key_len, has_old, old_value, old_len, has_new, new_value, new_len);
+}
+
+/* Writes the nearest pair on a side of a key, DILLUVAS_ABOVE, FROM, BELOW or UP_TO, or at an end of the map, DILLUVAS_FIRST or LAST, into a
+ * buffer of `room` bytes, and how many bytes it takes to `needed`. dilluvas_next reads it.
+ *
+ * Answers SHORT, where `needed` is written; NONE where there is no pair; ARGUMENTS where `side` is none of these; READ. */
+static inline dilluvas_status dilluvas_map_next(dilluvas *d, const uint8_t *name, size_t name_len, uint32_t side, const uint8_t *bound,
+                                                size_t bound_len, uint8_t *buffer, size_t room, size_t *needed) {
+    if (!d || !dilluvas_are_bytes(name, name_len) || !dilluvas_are_bytes(bound, bound_len) || !dilluvas_are_bytes(buffer, room) || !needed)
+        return DILLUVAS_ARGUMENTS;
+    return dilluvas_raw_map_next(d, name, name_len, side, bound, bound_len, buffer, room, needed);
+}
+
+/* Writes the first pairs from a bound on and before another, in their order, into a buffer of `room` bytes: those that one page has. Behind
+ * their `piece->pairs_len` bytes, which dilluvas_next reads, stand the `piece->rest_len` bytes of the key from which on the others are,
+ * where `piece->more` is true. A call from that key, DILLUVAS_INCLUDED, goes on; so does one from the last key that was read,
+ * DILLUVAS_EXCLUDED. There is no pair only where the map has none there, and then there are no others.
+ *
+ * Answers SHORT, where `piece` is written: both together want room; ARGUMENTS where a kind is none of a bound; READ. */
+static inline dilluvas_status dilluvas_map_range(dilluvas *d, const uint8_t *name, size_t name_len, uint32_t from_kind, const uint8_t *from,
+                                                 size_t from_len, uint32_t to_kind, const uint8_t *to, size_t to_len, uint8_t *buffer,
+                                                 size_t room, dilluvas_piece *piece) {
+    if (!d || !dilluvas_are_bytes(name, name_len) || !dilluvas_are_bytes(from, from_len) || !dilluvas_are_bytes(to, to_len) ||
+        !dilluvas_are_bytes(buffer, room) || !piece)
+        return DILLUVAS_ARGUMENTS;
+    return dilluvas_raw_map_range(d, name, name_len, from_kind, from, from_len, to_kind, to, to_len, buffer, room, piece);
+}
+
+/* The same without the pairs: `piece->pairs_len` is 0, and the buffer gets the key from which on the others are. So a map is counted page by
+ * page.
+ *
+ * Answers as dilluvas_map_range does. */
+static inline dilluvas_status dilluvas_map_count(dilluvas *d, const uint8_t *name, size_t name_len, uint32_t from_kind, const uint8_t *from,
+                                                 size_t from_len, uint32_t to_kind, const uint8_t *to, size_t to_len, uint8_t *buffer,
+                                                 size_t room, dilluvas_piece *piece) {
+    if (!d || !dilluvas_are_bytes(name, name_len) || !dilluvas_are_bytes(from, from_len) || !dilluvas_are_bytes(to, to_len) ||
+        !dilluvas_are_bytes(buffer, room) || !piece)
+        return DILLUVAS_ARGUMENTS;
+    return dilluvas_raw_map_count(d, name, name_len, from_kind, from, from_len, to_kind, to, to_len, buffer, room, piece);
+}
+
+/* Takes away the map of a name with all that it has, and writes to `had` whether there was one. It reads all pages of the map before.
+ *
+ * Answers READ, LOG_FULL, STAMP_USED_UP: the map is there as it was then. */
+static inline dilluvas_status dilluvas_map_drop(dilluvas *d, const uint8_t *name, size_t name_len, bool *had) {
+    if (!d || !dilluvas_are_bytes(name, name_len) || !had) return DILLUVAS_ARGUMENTS;
+    return dilluvas_raw_map_drop(d, name, name_len, had);
+}
+
+/* Writes the first name of a map behind another one, by its bytes, or where `has_after` is false the first of all, into a buffer of `room`
+ * bytes, and its bytes to `needed`. A name that dilluvas_cas_root or dilluvas_open_tree gave a root is among them.
+ *
+ * Answers SHORT, where `needed` is written; NONE where there is no further name. */
+static inline dilluvas_status dilluvas_map_name(dilluvas *d, bool has_after, const uint8_t *after, size_t after_len, uint8_t *buffer,
+                                                size_t room, size_t *needed) {
+    if (!d || !dilluvas_are_bytes(after, after_len) || !dilluvas_are_bytes(buffer, room) || !needed) return DILLUVAS_ARGUMENTS;
+    return dilluvas_raw_map_name(d, has_after, after, after_len, buffer, room, needed);
 }
 
 /* ---- Pages. Each call from here on answers NOT_OPEN where the handle is closed, and WRITE where a write failed, now or earlier.
@@ -410,6 +570,13 @@ static inline dilluvas_status dilluvas_flush(dilluvas *d, size_t *written) {
 static inline dilluvas_status dilluvas_size(dilluvas *d, uint64_t *bytes) {
     if (!d || !bytes) return DILLUVAS_ARGUMENTS;
     return dilluvas_raw_size(d, bytes);
+}
+
+/* Writes how many bytes of the log make the pages, which is about what a rewriting leaves; 2^64 - 1 stands for that and for more. It reads
+ * nothing. In memory it doesn't answer WRITE. */
+static inline dilluvas_status dilluvas_live(dilluvas *d, uint64_t *bytes) {
+    if (!d || !bytes) return DILLUVAS_ARGUMENTS;
+    return dilluvas_raw_live(d, bytes);
 }
 
 /* Writes how many bytes the log has, and how many the pages would take by their contents, a segment among them; 2^64 - 1 stands for that

@@ -1,4 +1,6 @@
-#define _DEFAULT_SOURCE
+#ifndef _GNU_SOURCE
+#define _GNU_SOURCE /* fallocate, beside what POSIX has */
+#endif
 #include "dilluvas_file.h"
 #include <errno.h>
 #include <fcntl.h>
@@ -14,6 +16,11 @@ enum {
     ROOM = 65536,      /* bytes of the buffer */
     LEAST_READ = 4096, /* so many are read at least: what a page's later messages need often stands near */
     LEAST_PART = 4194304, /* so many bytes of the file are read together first as it is rewritten */
+    FEW_READS = 64,    /* so often one call is handed in what it needs; behind that ever more is read together */
+    PAIRS_OF_A_LEAF = 40, /* so often what a change is given may be written: with it the leaf where it lies */
+    LEAST_ROOM = 65536, /* bytes that are kept for what else a change writes */
+    LEAST_STEP = 65536, /* room is kept in steps of an eighth of the file, within these */
+    MOST_STEP = 4194304,
     MOST_TRIES = 100,  /* so often is begun anew where another file took the place meanwhile */
     OFFSETS_HAVE_64_BITS = 1 / (sizeof(off_t) >= 8)
 };
@@ -36,6 +43,7 @@ static bool write_all(int descriptor, const uint8_t *bytes, size_t len, uint64_t
     while (len > 0) {
         ssize_t written = pwrite(descriptor, bytes, len, (off_t)at);
         if (written < 0 && errno == EINTR) continue;
+        if (written == 0) errno = EIO;
         if (written <= 0) return false;
         bytes += written;
         len -= (size_t)written;
@@ -57,6 +65,11 @@ static bool read_up_to(int descriptor, uint8_t *bytes, size_t len, uint64_t at, 
     return true;
 }
 
+/* Whether the system refused something for want of room. */
+static bool is_of_room(int error) {
+    return error == ENOSPC || error == EDQUOT;
+}
+
 static bool sync_data(int descriptor) {
     int done;
     do {
@@ -71,7 +84,9 @@ static bool do_tasks(dilluvas_file *file) {
     while (dilluvas_next_task(&file->cache, &task, file->buffer, ROOM) == DILLUVAS_OK && task.kind != DILLUVAS_NOTHING) {
         if (!is_own(file)) return false;
         bool done = task.kind == DILLUVAS_SYNC ? sync_data(file->descriptor) : write_all(file->descriptor, file->buffer, task.len, task.at);
-        if (!done) return false;
+        if (done) continue;
+        file->is_full = is_of_room(errno);
+        return false;
     }
     return true;
 }
@@ -93,19 +108,128 @@ static dilluvas_status read_needed(dilluvas_file *file) {
     return status;
 }
 
-bool dilluvas_file_again(dilluvas_file *file, dilluvas_status *status) {
+/* Hands in a part of the file, of so many bytes or more, in which the bytes lie that are needed. */
+static dilluvas_status read_part(dilluvas_file *file, uint64_t part) {
+    struct stat found;
+    uint64_t at = 0;
+    size_t len = 0, got = 0;
+    if (!is_own(file)) return DILLUVAS_READ;
+    dilluvas_status status = dilluvas_needs(&file->cache, &at, &len);
+    if (status != DILLUVAS_OK) return status;
+    if (fstat(file->descriptor, &found) != 0) return DILLUVAS_READ;
+    uint64_t from = at - at % part, end = at + len < from + part ? from + part : at + len;
+    if (end > (uint64_t)found.st_size) end = (uint64_t)found.st_size;
+    if (end < at + len) return DILLUVAS_READ;
+    uint8_t *bytes = malloc((size_t)(end - from));
+    if (!bytes) return DILLUVAS_MEMORY;
+    if (!read_up_to(file->descriptor, bytes, (size_t)(end - from), from, &got) || from + got < at + len) status = DILLUVAS_READ;
+    else status = dilluvas_hand_in(&file->cache, from, bytes, got);
+    free(bytes);
+    return status;
+}
+
+/* Reads what is needed; and the more of what stands around it, the more often the call has wanted bytes: one that goes through a whole map
+ * begins anew each time, so it does no more often than the file's length has digits. */
+static dilluvas_status read_more(dilluvas_file *file) {
+    if (file->reads++ < FEW_READS) return read_needed(file);
+    unsigned further = file->reads - FEW_READS;
+    /* what isn't needed may be unreadable, and there may be no memory for it */
+    if (read_part(file, (uint64_t)ROOM << 2 * (further < 12 ? further : 12)) == DILLUVAS_OK) return DILLUVAS_OK;
+    return read_needed(file);
+}
+
+/* Does the tasks behind a call, and reads the bytes that it wants, if there are any. */
+static bool again(dilluvas_file *file, dilluvas_status *status, dilluvas_status (*read)(dilluvas_file *)) {
     if (!do_tasks(file)) {
         dilluvas_failed(&file->cache);
         *status = DILLUVAS_WRITE;
     }
-    if (*status != DILLUVAS_NEEDS) return false;
-    *status = read_needed(file);
-    if (*status == DILLUVAS_OK) return true;
-    dilluvas_forget(&file->cache);
+    bool wants = *status == DILLUVAS_NEEDS;
+    if (wants) *status = read(file);
+    if (wants && *status == DILLUVAS_OK) return true;
+    file->reads = 0;
+    if (wants) dilluvas_forget(&file->cache);
     return false;
 }
 
+bool dilluvas_file_again(dilluvas_file *file, dilluvas_status *status) {
+    return again(file, status, read_more);
+}
+
+/* ---- Room for what is written later. */
+
+static uint64_t sum(uint64_t one, uint64_t other) {
+    return one > UINT64_MAX - other ? UINT64_MAX : one + other;
+}
+
+static uint64_t least(uint64_t one, uint64_t other) {
+    return one < other ? one : other;
+}
+
+/* Keeps room for the bytes of the file up to a place, and leaves its length. False: there is none. Where the system keeps none, or the file
+ * may get no longer, a write tells so. */
+static bool keep(dilluvas_file *file, uint64_t to) {
+#ifdef __linux__
+    uint64_t from = file->room_end, end = to;
+    struct rlimit limit;
+    /* beyond it a signal is raised, which ends the process */
+    if (getrlimit(RLIMIT_FSIZE, &limit) == 0 && limit.rlim_cur != RLIM_INFINITY && limit.rlim_cur < end) end = limit.rlim_cur;
+    if (from < end) {
+        int done;
+        do {
+            done = fallocate(file->descriptor, FALLOC_FL_KEEP_SIZE, (off_t)from, (off_t)(end - from));
+        } while (done != 0 && errno == EINTR);
+        /* a part of what was wanted may be kept then */
+        if (done == 0 || is_of_room(errno)) file->keeps_room = true;
+        if (done != 0 && is_of_room(errno)) return false;
+    }
+#endif
+    file->room_end = to;
+    return true;
+}
+
+/* Gives back the room behind the file's end. Where that fails it is of use to the next opening. */
+static bool give_back_room(dilluvas_file *file) {
+    struct stat found;
+    if (!file->keeps_room || !is_own(file)) return false;
+    if (fstat(file->descriptor, &found) != 0 || ftruncate(file->descriptor, found.st_size) != 0) return false;
+    file->room_end = (uint64_t)found.st_size;
+    return true;
+}
+
+dilluvas_status dilluvas_file_keep_room(dilluvas_file *file, size_t bytes) {
+    dilluvas_status status;
+    uint64_t size;
+    if (!file) return DILLUVAS_ARGUMENTS;
+    if (!file->buffer) return DILLUVAS_NOT_OPEN;
+    /* a write tells that it is the file of another process */
+    if (!is_own(file)) return DILLUVAS_OK;
+    DILLUVAS_FILE_CALL(file, status, dilluvas_size(&file->cache, &size));
+    if (status != DILLUVAS_OK) return status;
+    bool is_map = bytes == DILLUVAS_WHOLE_MAP;
+    /* the call itself tells that a key or a value is too long */
+    if (!is_map && bytes > INT32_MAX) return DILLUVAS_OK;
+    /* what is pending is less than a segment; the pages have no more bytes than both, and a change writes none of them more than twice */
+    uint64_t segment = file->settings.segment_size, all = sum(size, segment);
+    uint64_t longest = !is_map && bytes > file->longest ? bytes : file->longest;
+    uint64_t room = least(longest * PAIRS_OF_A_LEAF, sum(sum(all, all), 4 * longest));
+    /* what drops a map frees each page by a short message */
+    uint64_t to = sum(sum(all, is_map ? size / 16 : room), LEAST_ROOM);
+    /* where a segment is longer than any file there is no room to be kept */
+    if (to > file->room_end && to <= INT64_MAX / 2) {
+        uint64_t step = to / 8 < LEAST_STEP ? LEAST_STEP : to / 8 < MOST_STEP ? to / 8 : MOST_STEP;
+        if (!keep(file, to + step) && !keep(file, to)) return DILLUVAS_DISK_FULL;
+    }
+    file->longest = (size_t)longest;
+    return DILLUVAS_OK;
+}
+
 /* ---- Opening and closing. */
+
+/* That no file can be opened, made or named. */
+static dilluvas_status refusal(void) {
+    return is_of_room(errno) ? DILLUVAS_DISK_FULL : DILLUVAS_NO_ACCESS;
+}
 
 static bool are_one_file(const struct stat *one, const struct stat *other) {
     return one->st_dev == other->st_dev && one->st_ino == other->st_ino;
@@ -133,7 +257,7 @@ static dilluvas_status open_locked(const char *path, int flags, int *descriptor,
         /* what is no file isn't opened: that may wait, or do something to it */
         if (stat(path, &present) == 0 && !S_ISREG(present.st_mode)) return DILLUVAS_NO_FILE;
         int opened = open(path, flags | O_RDWR | O_CLOEXEC | O_NOCTTY, 0666);
-        if (opened < 0) return errno == EISDIR ? DILLUVAS_NO_FILE : errno == ENOENT ? DILLUVAS_NONE : DILLUVAS_NO_ACCESS;
+        if (opened < 0) return errno == EISDIR ? DILLUVAS_NO_FILE : errno == ENOENT ? DILLUVAS_NONE : refusal();
         dilluvas_status status = lock_file(opened, found);
         if (status == DILLUVAS_OK && stat(path, &present) == 0 && are_one_file(found, &present)) {
             *descriptor = opened;
@@ -188,7 +312,10 @@ static dilluvas_status open_cache(dilluvas_file *file, const dilluvas_file_setti
     file->path = calloc(1, PATH_MAX);
     if (!file->buffer || !file->path) return DILLUVAS_MEMORY;
     file->settings = settings ? *settings : usual;
-    DILLUVAS_FILE_CALL(file, status, dilluvas_open_file(&file->cache, &file->settings, len));
+    file->room_end = len;
+    /* an opening goes on behind each piece, and lets it go */
+    do status = dilluvas_open_file(&file->cache, &file->settings, len);
+    while (again(file, &status, read_needed));
     return status;
 }
 
@@ -199,12 +326,14 @@ static void close_all(dilluvas_file *file) {
     free(file->buffer);
     free(file->path);
     if (file->descriptor >= 0) {
+        give_back_room(file);
         if (is_own(file)) flock(file->descriptor, LOCK_UN);
         close(file->descriptor);
     }
     file->buffer = NULL;
     file->path = NULL;
     file->descriptor = -1;
+    file->keeps_room = false;
 }
 
 /* Gives a file the owner and the mode of the one whose place it takes. */
@@ -259,7 +388,7 @@ static bool is_as_found(const char *path, const struct stat *empty) {
 /* Puts an empty file in place, where the system has no second names for files: then it is made as in place of that. */
 static dilluvas_status put_empty(const char *path) {
     int descriptor = open(path, O_RDWR | O_CREAT | O_EXCL | O_CLOEXEC, 0666);
-    if (descriptor < 0 && errno != EEXIST) return DILLUVAS_NO_ACCESS;
+    if (descriptor < 0 && errno != EEXIST) return refusal();
     if (descriptor >= 0) close(descriptor);
     return DILLUVAS_STALE;
 }
@@ -268,7 +397,7 @@ static dilluvas_status put_empty(const char *path) {
 static dilluvas_status put_in_place(const char *path, const char *other, const struct stat *empty) {
     if (empty) {
         if (!is_as_found(path, empty)) return DILLUVAS_STALE;
-        return rename(other, path) == 0 ? DILLUVAS_OK : DILLUVAS_NO_ACCESS;
+        return rename(other, path) == 0 ? DILLUVAS_OK : refusal();
     }
     if (link(other, path) == 0) {
         unlink(other);
@@ -276,7 +405,7 @@ static dilluvas_status put_in_place(const char *path, const char *other, const s
     }
     if (errno == EEXIST) return DILLUVAS_STALE;
     bool has_links = errno != EPERM && errno != EOPNOTSUPP && errno != ENOTSUP && errno != ENOSYS && errno != EMLINK;
-    return has_links ? DILLUVAS_NO_ACCESS : put_empty(path);
+    return has_links ? refusal() : put_empty(path);
 }
 
 /* Makes a file by another name, and gives it its own once it is durable. The other name is kept by one process at a time. */
@@ -350,37 +479,22 @@ dilluvas_status dilluvas_file_open(dilluvas_file *file, const char *path, const 
     if (file->buffer) return DILLUVAS_ALREADY_OPEN;
     file->descriptor = -1;
     file->process = getpid();
+    file->next_look = 0;
+    file->longest = 0;
+    file->is_full = false;
     dilluvas_status status = DILLUVAS_STALE;
     for (int tried = 0; status == DILLUVAS_STALE && tried < MOST_TRIES; tried++) {
         status = open_or_make(file, path, settings);
         if (status != DILLUVAS_OK) close_all(file);
     }
     if (status == DILLUVAS_STALE) return DILLUVAS_NO_ACCESS;
+    if (status == DILLUVAS_WRITE && file->is_full) return DILLUVAS_DISK_FULL;
     /* it may have been taken away since */
     if (status == DILLUVAS_OK && !realpath(path, file->path)) file->path[0] = 0;
     return status;
 }
 
 /* ---- Rewriting. */
-
-/* Hands in a part of the file, of so many bytes or more, in which the bytes lie that are needed. */
-static dilluvas_status read_part(dilluvas_file *file, uint64_t part) {
-    struct stat found;
-    uint64_t at = 0;
-    size_t len = 0, got = 0;
-    dilluvas_status status = dilluvas_needs(&file->cache, &at, &len);
-    if (status != DILLUVAS_OK) return status;
-    if (fstat(file->descriptor, &found) != 0) return DILLUVAS_READ;
-    uint64_t from = at - at % part, end = at + len < from + part ? from + part : at + len;
-    if (end > (uint64_t)found.st_size) end = (uint64_t)found.st_size;
-    if (end < at + len) return DILLUVAS_READ;
-    uint8_t *bytes = malloc((size_t)(end - from));
-    if (!bytes) return DILLUVAS_MEMORY;
-    if (!read_up_to(file->descriptor, bytes, (size_t)(end - from), from, &got) || from + got < at + len) status = DILLUVAS_READ;
-    else status = dilluvas_hand_in(&file->cache, from, bytes, got);
-    free(bytes);
-    return status;
-}
 
 /* Rewrites a cache into the log of a new file. That is begun anew where bytes of the old file are needed. Of these ever more are handed in
  * together, so that it begins no more often than the file's length has digits. */
@@ -410,33 +524,30 @@ static dilluvas_status make_compact(dilluvas_file *file, dilluvas_file *next, co
     status = give_owner_and_mode(next->descriptor, &old) ? rewrite(file, next) : DILLUVAS_WRITE;
     if (status == DILLUVAS_OK) DILLUVAS_FILE_CALL(next, status, dilluvas_open_file(&next->cache, &file->settings, 0));
     bool is_there = stat(file->path, &found) == 0 && are_one_file(&old, &found);
-    if (status == DILLUVAS_OK && (!is_there || rename(other, file->path) != 0)) status = DILLUVAS_NO_ACCESS;
+    if (status == DILLUVAS_OK && !is_there) status = DILLUVAS_NO_ACCESS;
+    if (status == DILLUVAS_OK && rename(other, file->path) != 0) status = refusal();
     if (status != DILLUVAS_OK) unlink(other);
-    return status;
+    return status == DILLUVAS_WRITE && next->is_full ? DILLUVAS_DISK_FULL : status;
 }
 
 /* Gives each of two the other's cache, with its file. */
 static void swap(dilluvas_file *one, dilluvas_file *other) {
     dilluvas cache = one->cache;
     int descriptor = one->descriptor;
+    bool keeps_room = one->keeps_room;
     one->cache = other->cache;
     one->descriptor = other->descriptor;
+    one->keeps_room = other->keeps_room;
+    one->room_end = 0;
     other->cache = cache;
     other->descriptor = descriptor;
+    other->keeps_room = keeps_room;
 }
 
-dilluvas_status dilluvas_file_compact(dilluvas_file *file) {
+/* Rewrites a file that is this process's. */
+static dilluvas_status compact(dilluvas_file *file) {
     dilluvas_file next = DILLUVAS_FILE_CLOSED;
-    if (!file) return DILLUVAS_ARGUMENTS;
-    if (!file->buffer) return DILLUVAS_NOT_OPEN;
-    if (!is_own(file)) {
-        dilluvas_failed(&file->cache);
-        return DILLUVAS_WRITE;
-    }
-    uint64_t bytes;
     dilluvas_status status;
-    DILLUVAS_FILE_CALL(file, status, dilluvas_size(&file->cache, &bytes));
-    if (status != DILLUVAS_OK) return status;
     int folder = *file->path ? open_folder(file->path) : -1;
     if (folder < 0) return DILLUVAS_NO_ACCESS;
     char *other = name_while_made(file->path);
@@ -455,6 +566,55 @@ dilluvas_status dilluvas_file_compact(dilluvas_file *file) {
     close_all(&next);
     free(other);
     close(folder);
+    return status;
+}
+
+dilluvas_status dilluvas_file_compact(dilluvas_file *file) {
+    uint64_t bytes;
+    size_t written;
+    dilluvas_status status, flushed;
+    if (!file) return DILLUVAS_ARGUMENTS;
+    if (!file->buffer) return DILLUVAS_NOT_OPEN;
+    if (!is_own(file)) {
+        dilluvas_failed(&file->cache);
+        return DILLUVAS_WRITE;
+    }
+    DILLUVAS_FILE_CALL(file, status, dilluvas_size(&file->cache, &bytes));
+    if (status != DILLUVAS_OK) return status;
+    status = compact(file);
+    if (status != DILLUVAS_DISK_FULL || !file->keeps_room) return status;
+    /* the room that is kept for what is pending may be of use to the new file once nothing is */
+    DILLUVAS_FILE_CALL(file, flushed, dilluvas_flush(&file->cache, &written));
+    if (flushed != DILLUVAS_OK) return flushed;
+    return give_back_room(file) ? compact(file) : status;
+}
+
+/* Whether it is time to rewrite a file, of which nothing is pending. */
+static bool is_time(dilluvas_file *file, const dilluvas_compact_at *when, uint64_t size) {
+    dilluvas_status status;
+    uint64_t live;
+    if (size < file->next_look || size < when->least || size > when->most) return false;
+    DILLUVAS_FILE_CALL(file, status, dilluvas_live(&file->cache, &live));
+    if (status != DILLUVAS_OK) return false;
+    if (size / (when->times < 2 ? 2 : when->times) >= live) return true;
+    file->next_look = size + size / 8;
+    return false;
+}
+
+dilluvas_status dilluvas_file_flush(dilluvas_file *file, const dilluvas_compact_at *when) {
+    const dilluvas_compact_at usual = DILLUVAS_COMPACT_AT;
+    dilluvas_status status, looked;
+    size_t written;
+    uint64_t size;
+    if (!file) return DILLUVAS_ARGUMENTS;
+    if (!file->buffer) return DILLUVAS_NOT_OPEN;
+    DILLUVAS_FILE_CALL(file, status, dilluvas_flush(&file->cache, &written));
+    if (status != DILLUVAS_OK) return status;
+    DILLUVAS_FILE_CALL(file, looked, dilluvas_size(&file->cache, &size));
+    if (looked != DILLUVAS_OK || !is_time(file, when ? when : &usual, size)) return status;
+    /* the next call tells what came of it */
+    if (dilluvas_file_compact(file) == DILLUVAS_OK) DILLUVAS_FILE_CALL(file, looked, dilluvas_size(&file->cache, &size));
+    file->next_look = size + size / 2;
     return status;
 }
 

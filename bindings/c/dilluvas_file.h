@@ -1,9 +1,10 @@
 /* A cache over a file of the system, for programs in C on POSIX: the loop that dilluvas.h describes, by pread, pwrite and fdatasync.
  *
  *     dilluvas_file file = DILLUVAS_FILE_CLOSED;
- *     dilluvas_status status = dilluvas_file_open(&file, "pages", NULL);
- *     if (status == DILLUVAS_OK) DILLUVAS_FILE_CALL(&file, status, dilluvas_allocate(&file.cache, NULL, 0, &page, &stamp));
- *     if (status == DILLUVAS_OK) DILLUVAS_FILE_CALL(&file, status, dilluvas_flush(&file.cache, &written));
+ *     dilluvas_status status = dilluvas_file_open(&file, "maps", NULL);
+ *     if (status == DILLUVAS_OK) DILLUVAS_FILE_CHANGE(&file, status, 9, dilluvas_map_set(&file.cache, NAME, 4, KEY, 2, VALUE, 3, &had));
+ *     if (status == DILLUVAS_OK) DILLUVAS_FILE_CALL(&file, status, dilluvas_map_get(&file.cache, NAME, 4, KEY, 2, buffer, room, &len));
+ *     if (status == DILLUVAS_OK) status = dilluvas_file_flush(&file, NULL);
  *     dilluvas_file_close(&file);
  *
  * What dilluvas.h says that a program owes holds of a dilluvas_file too. Compile dilluvas_file.c with the program.
@@ -31,29 +32,58 @@ typedef struct dilluvas_file {
     char *path;
     dilluvas_file_settings settings;
     pid_t process;
+    unsigned reads;
+    uint64_t next_look;
+    uint64_t room_end;
+    size_t longest;
+    bool keeps_room;
+    bool is_full;
 } dilluvas_file;
 
 /* One before its first call, and behind dilluvas_file_close. */
-#define DILLUVAS_FILE_CLOSED {DILLUVAS_CLOSED, -1, NULL, NULL, {0, 0, 0}, 0}
+#define DILLUVAS_FILE_CLOSED {DILLUVAS_CLOSED, -1, NULL, NULL, {0, 0, 0}, 0, 0, 0, 0, 0, false, false}
 
 /* Opens a cache over the file of a path, which is locked as by flock until it is closed. Null settings are DILLUVAS_FILE_SETTINGS. A file
  * that is absent or empty is made: with ".dilluvas-new" behind its name until it is whole and durable, so a crash leaves it whole or as it
  * was; only where the file system has no hard links it may leave an empty one. It has the owner and the mode of the empty one, and a link to
  * that stays. None is made where a link leads to no file. It takes no other file's place: one that came meanwhile is opened.
  *
- * Answers ARGUMENTS; ALREADY_OPEN; NO_FILE, NO_ACCESS, HELD; and what dilluvas_open_file does but NEEDS. NO_FILE is the answer for the
- * system's own files too that say that they have no bytes, as those of /proc. Nothing is open then, and what the file holds is as it was. */
+ * Answers ARGUMENTS; ALREADY_OPEN; NO_FILE, NO_ACCESS, HELD, DISK_FULL; and what dilluvas_open_file does but NEEDS. NO_FILE is the answer
+ * for the system's own files too that say that they have no bytes, as those of /proc. Nothing is open then, and what the file holds is as it
+ * was. */
 dilluvas_status dilluvas_file_open(dilluvas_file *file, const char *path, const dilluvas_file_settings *settings);
 
 /* Does what the library wants of the file behind a call that answered `*status`. True: the call is to be made again. Otherwise `*status` is
  * the answer: that of the call, or WRITE, READ or MEMORY. */
 bool dilluvas_file_again(dilluvas_file *file, dilluvas_status *status);
 
-/* Makes a call until it is answered. */
+/* Makes a call until it is answered. One that changes something is better made by DILLUVAS_FILE_CHANGE. */
 #define DILLUVAS_FILE_CALL(file, status, call) \
     do { \
         (status) = (call); \
     } while (dilluvas_file_again((file), &(status)))
+
+/* Makes a call that changes pages, maps, names or ids until it is answered. Where the disk has no room for it, it isn't made, and the answer
+ * is DISK_FULL. `bytes` are how many bytes of names, keys, values and pairs the call is given; dilluvas_map_drop has DILLUVAS_WHOLE_MAP.
+ *
+ *     DILLUVAS_FILE_CHANGE(&file, status, name_len + key_len + value_len, dilluvas_map_set(&file.cache, ..));
+ *
+ * DILLUVAS_FILE_CALL keeps no room for such a call: on a full disk a write of it fails, and every later call answers WRITE. */
+#define DILLUVAS_FILE_CHANGE(file, status, bytes, call) \
+    do { \
+        (status) = dilluvas_file_keep_room((file), (bytes)); \
+        if ((status) == DILLUVAS_OK) DILLUVAS_FILE_CALL(file, status, call); \
+    } while (0)
+
+#define DILLUVAS_WHOLE_MAP SIZE_MAX
+
+/* Keeps room in the file for a change that is given so many bytes, as DILLUVAS_FILE_CHANGE does before it, and for all that is pending. The
+ * length of the file stays as it is, and dilluvas_file_close gives the room back. Where the system keeps none (it does on Linux, on most file
+ * systems), the answer is OK, and a write on a full disk fails.
+ *
+ * Answers ARGUMENTS, NOT_OPEN; DISK_FULL, behind which all that was changed before is there, can be read and flushed, and changes go on once
+ * there is room; WRITE where a write failed earlier. */
+dilluvas_status dilluvas_file_keep_room(dilluvas_file *file, size_t bytes);
 
 /* Rewrites the cache into a new file, which has each page as one message, and goes on over that: it takes the place of the file, with its
  * owner and its mode, and is locked before it does, so at no moment the path leads to a file that another process may lock. Until then the
@@ -70,9 +100,31 @@ bool dilluvas_file_again(dilluvas_file *file, dilluvas_status *status);
  *
  * Answers ARGUMENTS, NOT_OPEN; BATCH_OPEN; MEMORY, READ; CORRUPTION for a page that can't be read; LOG_FULL; NO_FILE and NO_ACCESS where the
  * new file can't be made, or the path doesn't lead to the file by now; HELD where a process makes one by that name. The file and the cache
- * are what they were then. So they are at WRITE too where the new file couldn't be written or synced. Where the folder couldn't be synced
- * every later call answers WRITE: the new file is there, but a crash may bring back the old one. */
+ * are what they were then. So they are at WRITE too where the new file couldn't be written or synced, and at DISK_FULL, where it has no room:
+ * before that all that was pending was flushed, and the room that is kept for changes was given back to it. Where the folder couldn't be
+ * synced every later call answers WRITE: the new file is there, but a crash may bring back the old one. */
 dilluvas_status dilluvas_file_compact(dilluvas_file *file);
+
+/* When dilluvas_file_flush rewrites a file: where it has `times` as many bytes as its pages take, and `least` bytes or more, and no more than
+ * `most`. */
+typedef struct dilluvas_compact_at {
+    uint64_t times; /* at least 2, which is taken for what is less */
+    uint64_t least;
+    uint64_t most; /* a rewriting may take three times as much memory */
+} dilluvas_compact_at;
+
+#define DILLUVAS_COMPACT_AT {4, 16777216, 1073741824}
+
+/* Makes all that is pending durable, as dilluvas_flush does, and then rewrites the file as dilluvas_file_compact does, where it is time to:
+ * else a file only grows. Null stands for DILLUVAS_COMPACT_AT. How much the pages take is looked at each time that the file has grown by an
+ * eighth.
+ *
+ * Each page has stamp 0 behind a rewriting, so this call is for programs that keep maps, and for those that let their stamps go at each
+ * flush.
+ *
+ * Answers as dilluvas_flush does, whatever comes of the rewriting: one that is refused leaves the file and the cache as they were, or the
+ * next call answers WRITE, and it is tried again once the file has grown by half. */
+dilluvas_status dilluvas_file_flush(dilluvas_file *file, const dilluvas_compact_at *when);
 
 /* Closes the cache and the file. Nothing is flushed.
  *

@@ -1,7 +1,8 @@
 /* dilluvas_file.c, whose reads, writes and syncs go by a hook: bindings/python/c_loop.py sets it, and lets them fail. With it allocations
  * are refused. Linked into a shared library with --wrap=malloc, --wrap=calloc and --wrap=realloc. */
-#define _DEFAULT_SOURCE
+#define _GNU_SOURCE
 #include <errno.h>
+#include <fcntl.h>
 #include <stdbool.h>
 #include <stdint.h>
 #include <stdio.h>
@@ -96,6 +97,13 @@ static int hooked_link(const char *old, const char *new) {
     return (int)call(LINK, -1, old, 0, (int64_t)(intptr_t)new);
 }
 
+/* No room is kept, so that what is written is what fails. */
+static int hooked_fallocate(int descriptor, int mode, off_t at, off_t len) {
+    (void)descriptor, (void)mode, (void)at, (void)len;
+    errno = EOPNOTSUPP;
+    return -1;
+}
+
 #define pread hooked_pread
 #define pwrite hooked_pwrite
 #define fdatasync hooked_fdatasync
@@ -103,5 +111,5 @@ static int hooked_link(const char *old, const char *new) {
 #define rename hooked_rename
 #define unlink hooked_unlink
 #define link hooked_link
-#undef _DEFAULT_SOURCE
+#define fallocate hooked_fallocate
 #include "dilluvas_file.c"

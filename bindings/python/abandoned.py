@@ -10,8 +10,7 @@ import random
 import tempfile
 
 import c_loop
-from dilluvas import WRITE, Refused
-from dilluvas_file import FileCache
+from dilluvas import DISK_FULL, WRITE, FileCache, Refused
 from faults import ENDS, FAILS, PowerCut, System
 from journal import Journal, end_of, with_gates_open
 from machine import FLUSH, PIN, Change, Held, Link, Node
@@ -58,7 +57,7 @@ def is_opened(path, left, stop, is_lasting, stops_at):
         try:
             open_over(system, path).close()
         except Refused as refused:
-            assert stop == FAILS and refused.status == WRITE and system.failed_writes
+            assert stop == FAILS and refused.status in (WRITE, DISK_FULL) and system.failed_writes
         except PowerCut:
             assert stop == ENDS
         was_made = system.calls < stops_at

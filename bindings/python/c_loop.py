@@ -6,9 +6,11 @@ It wants a shared library of bindings/c/hooks.c and libdilluvas.a, and DILLUVAS_
 import ctypes
 import errno
 import os
-from ctypes import POINTER, byref, c_bool, c_char_p, c_int, c_int64, c_long, c_size_t, c_uint32, c_void_p
+from ctypes import POINTER, byref, c_bool, c_char_p, c_int, c_int64, c_long, c_size_t, c_uint, c_uint32, c_uint64, c_void_p
 
-from dilluvas import Cache, _check, _FileSettings, _Handle, _LIBRARY, _number
+from dilluvas import Cache
+from dilluvas._errors import check
+from dilluvas._library import FileSettings, Handle, library, number_of
 from faults import PowerCut
 
 _READ, _WRITE, _SYNC, _SYNC_FOLDER, _RENAME, _UNLINK, _LINK = range(7)
@@ -17,30 +19,36 @@ _HOOK = ctypes.CFUNCTYPE(c_int64, c_int, c_int, c_void_p, c_size_t, c_int64)
 
 class _File(ctypes.Structure):
     _fields_ = [
-        ("cache", _Handle),
+        ("cache", Handle),
         ("descriptor", c_int),
         ("buffer", c_void_p),
         ("path", c_void_p),
-        ("settings", _FileSettings),
+        ("settings", FileSettings),
         ("process", c_int),
+        ("reads", c_uint),
+        ("next_look", c_uint64),
+        ("room_end", c_uint64),
+        ("longest", c_size_t),
+        ("keeps_room", c_bool),
+        ("is_full", c_bool),
     ]
 
 
 def is_there():
-    return hasattr(_LIBRARY, "dilluvas_set_hook")
+    return hasattr(library(), "dilluvas_set_hook")
 
 
 def _load():
-    _LIBRARY.dilluvas_set_hook.argtypes = (_HOOK,)
-    _LIBRARY.dilluvas_refuse_allocation.argtypes = (c_long,)
-    _LIBRARY.dilluvas_was_refused.restype = c_bool
+    library().dilluvas_set_hook.argtypes = (_HOOK,)
+    library().dilluvas_refuse_allocation.argtypes = (c_long,)
+    library().dilluvas_was_refused.restype = c_bool
     for name, parameters, result in (
-        ("open", (POINTER(_File), c_char_p, POINTER(_FileSettings)), c_uint32),
+        ("open", (POINTER(_File), c_char_p, POINTER(FileSettings)), c_uint32),
         ("again", (POINTER(_File), POINTER(c_uint32)), c_bool),
         ("compact", (POINTER(_File),), c_uint32),
         ("close", (POINTER(_File),), c_uint32),
     ):
-        function = getattr(_LIBRARY, "dilluvas_file_" + name)
+        function = getattr(library(), "dilluvas_file_" + name)
         function.argtypes, function.restype = parameters, result
 
 
@@ -53,17 +61,17 @@ class Loop:
         _load()
 
     def __call__(self, path, capacity=1 << 20, interval=10, segment_size=1 << 20):
-        return CFileCache(self, path, _FileSettings(_number(capacity), _number(interval), _number(segment_size)))
+        return CFileCache(self, path, FileSettings(number_of(capacity), number_of(interval), number_of(segment_size)))
 
     def set_hook(self):
-        _LIBRARY.dilluvas_set_hook(self._hook)
+        library().dilluvas_set_hook(self._hook)
 
     def refuse_allocation(self, behind):
         """The allocation behind so many is refused, and none where this is -1."""
-        _LIBRARY.dilluvas_refuse_allocation(behind)
+        library().dilluvas_refuse_allocation(behind)
 
     def was_refused(self):
-        return _LIBRARY.dilluvas_was_refused()
+        return library().dilluvas_was_refused()
 
     def _called(self, kind, descriptor, data, length, at):
         if kind in (_READ, _WRITE, _SYNC, _SYNC_FOLDER) and self._random.randrange(8) == 0:
@@ -92,16 +100,16 @@ class Loop:
 
 
 class CFileCache(Cache):
-    """An open cache over a file, as FileCache of dilluvas_file is one."""
+    """An open cache over a file, as FileCache is one."""
 
     def __init__(self, loop, path, settings):
         self._loop, self._file = loop, _File(descriptor=-1)
         self._handle = self._file.cache
         loop.set_hook()
         was_off = loop.system.is_off
-        status = _LIBRARY.dilluvas_file_open(byref(self._file), os.fsencode(path), byref(settings))
+        status = library().dilluvas_file_open(byref(self._file), os.fsencode(path), byref(settings))
         self._tell_power(was_off)
-        _check(status)
+        check(status)
 
     def _tell_power(self, was_off):
         if self._loop.system.is_off and not was_off:
@@ -111,16 +119,16 @@ class CFileCache(Cache):
         while True:
             was_off = self._loop.system.is_off
             status = c_uint32(super()._ask(name, *arguments))
-            again = _LIBRARY.dilluvas_file_again(byref(self._file), byref(status))
+            again = library().dilluvas_file_again(byref(self._file), byref(status))
             self._tell_power(was_off)
             if not again:
                 return status.value
 
     def compact(self):
         was_off = self._loop.system.is_off
-        status = _LIBRARY.dilluvas_file_compact(byref(self._file))
+        status = library().dilluvas_file_compact(byref(self._file))
         self._tell_power(was_off)
-        _check(status)
+        check(status)
 
-    def close(self):
-        _LIBRARY.dilluvas_file_close(byref(self._file))
+    def _close(self):
+        library().dilluvas_file_close(byref(self._file))

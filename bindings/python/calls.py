@@ -1,10 +1,9 @@
-"""Each method of dilluvas.py once, a cache over a file, and answers that aren't OK."""
+"""Each method of a cache once, a cache over a file, and answers that aren't OK."""
 
 import os
 import tempfile
 
-from dilluvas import HELD, NO_ACCESS, NO_FILE, Cache, Gone, Refused, Stale, text_of
-from dilluvas_file import FileCache
+from dilluvas import HELD, NO_ACCESS, NO_FILE, Cache, FileCache, Gone, Refused, Stale, text_of
 
 
 def refused(call):

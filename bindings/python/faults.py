@@ -1,14 +1,13 @@
 """A system whose reads, writes and syncs fail, and whose power goes.
 
-It stands in for the module os of dilluvas_file and dilluvas_paths, and keeps of one file what was written since its last sync.
+It stands in for os in the modules of files and paths, and keeps of one file what was written since its last sync.
 """
 
 import errno
 import os
 import stat
 
-import dilluvas_file
-import dilluvas_paths
+from dilluvas import _file, _paths, _room
 
 # What comes of the call at which things go wrong: it fails, or the power goes.
 FAILS, ENDS = "fails", "ends"
@@ -20,8 +19,8 @@ class PowerCut(BaseException):
 
 class System:
     """`calls` counts what would change the file or make it durable; the one that `stops_at` names goes wrong, and with `is_lasting` all
-    behind it do. Of the reads one of `fails_one_read_of` fails, and none where this is 0. Many reads and writes do a part. One that
-    `drops_syncs` makes nothing durable."""
+    behind it do. Of the reads one of `fails_one_read_of` fails, and none where this is 0, and of the calls that keep room one of
+    `refuses_one_room_of` does. Many reads and writes do a part. One that `drops_syncs` makes nothing durable."""
 
     def __init__(self, random):
         self._random = random
@@ -36,15 +35,18 @@ class System:
         return getattr(os, name)
 
     def __enter__(self):
-        dilluvas_file.os = dilluvas_paths.os = self
+        _file.os = _paths.os = self
+        self._fallocate, _room.fallocate = _room.fallocate, self.fallocate
         return self
 
     def __exit__(self, *_):
-        dilluvas_file.os = dilluvas_paths.os = os
+        _file.os = _paths.os = os
+        _room.fallocate = self._fallocate
 
     def disarm(self):
         self.stops_at, self.stop, self.is_lasting = None, FAILS, False
         self.fails_one_read_of = 0
+        self.refuses_one_room_of = 0
         self.calls = self.failed_reads = self.failed_writes = 0
 
     def arm(self, stop, stops_at, is_lasting=False):
@@ -66,7 +68,13 @@ class System:
         self.failed_writes += 1
         raise OSError(self._random.choice(numbers), "it fails")
 
-    # ---- What dilluvas_file and dilluvas_paths call.
+    # ---- What these modules call.
+
+    def fallocate(self, *_):
+        if self.refuses_one_room_of and self._random.randrange(self.refuses_one_room_of) == 0:
+            raise OSError(self._random.choice((errno.ENOSPC, errno.EDQUOT)), "it fails")
+        # no room is kept, so that what is written is what fails
+        return False
 
     def pread(self, descriptor, count, at):
         if self.fails_one_read_of and self._random.randrange(self.fails_one_read_of) == 0:
@@ -93,6 +101,9 @@ class System:
         self._sync(descriptor)
 
     def ftruncate(self, descriptor, size):
+        # it gives back room and cuts nothing: closing does so too, where the power went
+        if self.is_off:
+            return
         if self._goes_wrong():
             self._go_wrong(errno.EIO)
         os.ftruncate(descriptor, size)

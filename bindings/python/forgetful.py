@@ -10,10 +10,7 @@ import random
 import tempfile
 
 import c_loop
-import dilluvas_file
-import dilluvas_paths
-from dilluvas import Refused
-from dilluvas_file import FileCache
+from dilluvas import FileCache, Refused, _file, _paths
 
 # In each of so many openings so many pages are added at most, each of which a flush follows, and then a batch is begun that is lost.
 OPENINGS, PAGES = 3, 2
@@ -39,11 +36,11 @@ class Forgetful:
         return getattr(os, name)
 
     def __enter__(self):
-        dilluvas_file.os = dilluvas_paths.os = self
+        _file.os = _paths.os = self
         return self
 
     def __exit__(self, *_):
-        dilluvas_file.os = dilluvas_paths.os = os
+        _file.os = _paths.os = os
 
     def pwrite(self, descriptor, data, at):
         number = os.fstat(descriptor).st_ino

@@ -9,8 +9,8 @@ import tempfile
 import threading
 import time
 
-from dilluvas import HELD, OK, READ, WRITE, Cache
-from dilluvas_file import FileCache
+import dilluvas
+from dilluvas import BATCH_OPEN, HELD, NOT_OPEN, OK, READ, WRITE, Cache, FileCache
 from inputs import CALLS, answer_in, in_child, status_elsewhere, status_of, written
 
 # So many seconds has a child: one that hangs is told as that.
@@ -111,9 +111,81 @@ def between_calls(folder):
             assert not isinstance(cache, FileCache) or again.get(last) is not None and again.get(last + 1) is None
 
 
+def maps_are_the_parents(folder):
+    """A child neither unlocks the file of maps, nor writes or reads it, however it leaves the db; what isn't durable stays the parent's."""
+    path = os.path.join(folder, "maps")
+    with dilluvas.open(path) as db:
+        db["m"].update({b"%03d" % number: b"v" * 1000 for number in range(100)})
+    os.chmod(path, 0o666)
+    held = [dilluvas.open(path, capacity=256)]
+    held[0]["m"][b"pending"] = b""
+
+    def let_go():
+        held.clear()
+        gc.collect()
+        return OK
+
+    def leave():
+        with held[0] as db:
+            db["m"][b"childs"] = b""
+        return OK
+
+    def in_batch():
+        with held[0].batch():
+            held[0]["m"][b"childs"] = b""
+        return held[0].flush()
+
+    content = pathlib.Path(path).read_bytes()
+    for call, status in (
+        (lambda: held[0].close() or OK, OK), (let_go, OK), (lambda: status_of(leave), WRITE), (lambda: status_of(in_batch), WRITE),
+        (lambda: status_of(held[0].flush), WRITE), (lambda: status_of(held[0].compact), WRITE), (lambda: status_of(len, held[0]["m"]), READ),
+        (lambda: len(held[0].maps()) - 1, OK),
+    ):  # fmt: skip
+        found = in_time(call)
+        assert found == status, (found, status)
+        assert status_elsewhere(lambda: dilluvas.open(path)) == HELD
+        assert pathlib.Path(path).read_bytes() == content and os.listdir(folder).count("maps.dilluvas-new") == 0
+    assert held[0]["m"][b"pending"] == b"" and held[0].flush() > 0
+    held.pop().close()
+    assert status_elsewhere(lambda: dilluvas.open(path)) == OK
+    with dilluvas.open(path) as db:
+        assert len(db["m"]) == 101 and b"childs" not in db["m"]
+
+
+def within_batches(folder):
+    """A child that is forked while another thread is in a batch is refused everything there, and hangs nowhere."""
+    for path in (os.path.join(folder, "batches"), ":memory:"):
+        with dilluvas.open(path) as db:
+            begun, ended = threading.Event(), threading.Event()
+
+            def use():
+                with db.batch():
+                    db["m"][b"k"] = b"v"
+                    begun.set()
+                    ended.wait()
+
+            def leave():
+                statuses = {status_of(db.flush), status_of(db.batch().__enter__), status_of(db["m"].get, b"k"), status_of(db.maps)}
+                db.close()
+                return OK if statuses == {WRITE} and status_of(db.flush) == NOT_OPEN else READ
+
+            thread = threading.Thread(target=use)
+            thread.start()
+            begun.wait()
+            try:
+                assert in_time(leave) == OK
+            finally:
+                ended.set()
+                thread.join()
+            with db.batch():
+                # one that is this thread's own goes on in the child
+                assert in_time(lambda: OK if db["m"][b"k"] == b"v" and status_of(db.flush) == BATCH_OPEN else READ) == OK
+            assert db["m"] == {b"k": b"v"} and db.flush() > 0
+
+
 AT_EXIT = """
 import os, sys, threading
-from dilluvas_file import FileCache
+from dilluvas import FileCache
 cache = FileCache(sys.argv[1])
 busy = threading.Event()
 def hold():
@@ -149,8 +221,7 @@ def run_program(text, *arguments):
 
 TOO_LONG = """
 import resource, sys
-from dilluvas import Refused
-from dilluvas_file import FileCache
+from dilluvas import FileCache, Refused
 cache = FileCache(sys.argv[1])
 cache.allocate([(b"k", b"v" * 100000)])
 resource.setrlimit(resource.RLIMIT_FSIZE, (20000, resource.RLIM_INFINITY))
@@ -170,7 +241,12 @@ def a_limit_of_files(folder):
         assert cache.get(2) is not None and cache.get(3) is None
 
 
+TESTS = (
+    closes_alone, is_unlocked_for_a_child, neither_writes_nor_reads, between_calls, maps_are_the_parents, within_batches, at_exit,
+    a_limit_of_files,
+)  # fmt: skip
+
 with tempfile.TemporaryDirectory() as made:
     os.chmod(made, 0o755)
-    for test in (closes_alone, is_unlocked_for_a_child, neither_writes_nor_reads, between_calls, at_exit, a_limit_of_files):
+    for test in TESTS:
         test(made)

@@ -10,8 +10,8 @@ import signal
 import socket
 import sys
 
-from dilluvas import HELD, NO_ACCESS, NO_FILE, OK, READ, SHORT, WRITE, Refused, _Found, text_of
-from dilluvas_file import FileCache
+from dilluvas import HELD, NO_ACCESS, NO_FILE, OK, READ, SHORT, WRITE, FileCache, Refused, text_of
+from dilluvas._library import Found
 from faults import System
 from machine import BATCH_OPEN, IDS_USED_UP, MEMORY, NOT_OPEN, RESERVED_ID
 
@@ -230,7 +230,7 @@ def numbers(folder):
 
 
 def short_buffers(folder):
-    room, found, needed = ctypes.create_string_buffer(b"\7" * 8, 8), _Found(), ctypes.c_size_t()
+    room, found, needed = ctypes.create_string_buffer(b"\7" * 8, 8), Found(), ctypes.c_size_t()
     with FileCache(os.path.join(folder, "short")) as cache:
         page, _ = cache.allocate([(b"key", b"value")])
         for size in range(8):

@@ -3,20 +3,20 @@
 A cache goes on as before then, over the file that its path leads to, or refuses every call by WRITE.
 """
 
+import contextlib
 import itertools
 import os
+import random
+import signal
 import sys
 import tempfile
 import threading
 
 import dilluvas
-import dilluvas_file
-import dilluvas_paths
-from dilluvas import OK, WRITE, Cache
-from dilluvas_file import FileCache
+from dilluvas import OK, WRITE, Cache, FileCache
 from inputs import CALLS, status_of
 
-MODULES = {module.__file__ for module in (dilluvas, dilluvas_file, dilluvas_paths)}
+PACKAGE = os.path.dirname(dilluvas.__file__)
 PLACE = "/dev/shm" if os.path.isdir("/dev/shm") else None
 
 # What was raised in a finalizer, which nobody can catch.
@@ -33,7 +33,7 @@ def is_interrupted(line, call):
     def trace(frame, event, _):
         global place
         nonlocal count
-        if frame.f_code.co_filename not in MODULES:
+        if os.path.dirname(frame.f_code.co_filename) != PACKAGE:
             return None
         if event == "line":
             count += 1
@@ -182,8 +182,184 @@ def compact_in_memory(_):
     assert status_of(cache.compact) == OK
 
 
+# ---- The cases of maps.
+
+# A file is rewritten as often as it may be.
+ALWAYS = dilluvas.CompactAt(2, 0, sys.maxsize)
+
+# It is written at once.
+SMALL = {"capacity": 256, "segment_size": 64}
+BEFORE = {b"%02d" % number: b"v" * 20 for number in range(40)}
+
+
+def filled_maps(path):
+    """A db with pairs that are durable, most of which aren't in memory, and one that isn't durable."""
+    with dilluvas.open(path) as db:
+        db["m"].update(BEFORE)
+    db = dilluvas.open(path, **SMALL)
+    db["other"][b"pending"] = b""
+    return db
+
+
+def maps_of(db):
+    return dict(db["m"]), dict(db["other"])
+
+
+def maps_go_on(db, path, *changed):
+    """Whether the db goes on, or is stuck, with what was there, or what the call has changed it to, and what it has durable."""
+    pending = {b"pending": b""}
+    outcomes = [(BEFORE, pending), *changed]
+    status = status_in_thread(db.flush)
+    if status == OK:
+        found = maps_of(db)
+        assert found in outcomes
+        with db.batch():
+            db["other"][b"later"] = b""
+        assert status_in_thread(db.flush) == OK
+        outcomes = [(found[0], {**found[1], b"later": b""})]
+    else:
+        assert status == WRITE and status_of(db.generate_id) == status_of(db["m"].clear) == status_of(db.maps) == WRITE
+        outcomes += [(m, {}) for m, _ in outcomes]
+    db.close()
+    with dilluvas.open(path) as again:
+        assert maps_of(again) in outcomes, (status, maps_of(again)[1])
+    assert os.listdir(os.path.dirname(path)) == [os.path.basename(path)]
+
+
+def maps_case(call, *changed):
+    def case(path):
+        db = filled_maps(path)
+        before = open_descriptors()
+        yield lambda: call(db)
+        assert open_descriptors() == before
+        maps_go_on(db, path, *changed)
+
+    return case
+
+
+def set_one(db):
+    db["m"][b"20"] = b"w" * 100
+
+
+def take_one(db):
+    assert db["m"].pop(b"20") == b"v" * 20
+
+
+def set_in_batch(db):
+    with db.batch():
+        db["m"][b"20"] = b"w" * 100
+        db["other"][b"20"] = b"w" * 100
+
+
+def leave_batch(db):
+    with contextlib.suppress(LookupError), db.batch():
+        db["m"][b"20"] = b"w" * 100
+        raise LookupError
+
+
+def walk(db):
+    assert list(db["m"].irange(b"12", b"20")) == sorted(BEFORE.items())[12:20] and len(db["m"]) == 40
+    assert [key for key, _ in db["m"].irange(b"14", b"17", reverse=True)] == [b"16", b"15", b"14"]
+
+
+def flush_and_rewrite(path):
+    db = filled_maps(path)
+    db.compact_at = ALWAYS
+    before, length = open_descriptors(), db.size_on_disk()
+
+    def flush():
+        db.flush()
+        assert db.size_on_disk() < length
+
+    yield flush
+    assert open_descriptors() == before
+    # as a process that is killed may leave one
+    with contextlib.suppress(FileNotFoundError):
+        os.unlink(path + ".dilluvas-new")
+    maps_go_on(db, path)
+
+
+def leave_db(path):
+    db = filled_maps(path)
+
+    def leave():
+        with db:
+            db["m"][b"20"] = b"w" * 100
+
+    yield leave
+    assert status_in_thread(db.close) == OK
+    with dilluvas.open(path) as again:
+        assert maps_of(again) in [(m, other) for m in (BEFORE, AFTER) for other in ({}, {b"pending": b""})]
+
+
+def open_db(path):
+    filled_maps(path).close()
+    before = open_descriptors()
+    yield lambda: dilluvas.open(path, **SMALL)
+    assert open_descriptors() == before
+    maps_go_on(dilluvas.open(path), path, (BEFORE, {}))
+
+
+PENDING, AFTER = {b"pending": b""}, {**BEFORE, b"20": b"w" * 100}
+MAPS = (
+    maps_case(set_one, (AFTER, PENDING)),
+    maps_case(take_one, ({key: value for key, value in BEFORE.items() if key != b"20"}, PENDING)),
+    maps_case(set_in_batch, (AFTER, PENDING), (AFTER, {**PENDING, b"20": b"w" * 100})),
+    maps_case(leave_batch, (AFTER, PENDING)),
+    maps_case(walk),
+    flush_and_rewrite,
+    maps_case(lambda db: db["m"].clear(), ({}, PENDING)),
+    leave_db,
+    open_db,
+)
+
+# ---- Signals, which come where no line begins.
+
+
+def signals(path):
+    """Interrupts at any moment, by a timer: no lock is left, each goes on or is refused, and what is durable is whole."""
+    choose, statuses, came = random.Random(1), set(), []
+
+    def interrupt(*_):
+        came.append(True)
+        raise KeyboardInterrupt
+
+    signal.signal(signal.SIGALRM, interrupt)
+    db = dilluvas.open(path, compact_at=ALWAYS, **SMALL)
+    for _ in range(300):
+        try:
+            signal.setitimer(signal.ITIMER_REAL, 0.0001 + choose.random() / 100)
+            change_until(came, db, choose)
+        except KeyboardInterrupt:
+            pass
+        came.clear()
+        status = status_in_thread(db.flush)
+        statuses.add(status)
+        if status == WRITE:
+            db.close()
+            db = dilluvas.open(path, compact_at=ALWAYS, **SMALL)
+        with db.batch():
+            assert list(db["one"]) == sorted(db["one"]) and len(db["two"]) <= 40
+        assert status_in_thread(db.flush) == OK
+    db.close()
+    assert statuses == {OK, WRITE}
+
+
+def change_until(came, db, choose):
+    # one that falls into a finalizer is told to nobody
+    while not came:
+        key = b"%d" % choose.randrange(40)
+        with db.batch():
+            db["one"][key] = db["two"][key] = key * 20
+        assert dict(db["one"].items()).get(key) == db["one"].get(key) == key * 20
+        db["one"].pop(key)
+        db.flush()
+
+
 sys.unraisablehook = lambda found: unraised.append(found.exc_type)
-CASES = compact, flush, close, compact_in_memory, *map(construct, (absent, empty, existing))
+CASES = compact, flush, close, compact_in_memory, *map(construct, (absent, empty, existing)), *MAPS
 numbers = [lines_of(case) for case in CASES]
+with tempfile.TemporaryDirectory(dir=PLACE) as made:
+    signals(os.path.join(made, "maps"))
 assert set(unraised) <= {KeyboardInterrupt}, unraised
 print("interrupted:", sum(numbers), "lines")

@@ -5,8 +5,7 @@ import os
 import random
 
 import c_loop
-from dilluvas import NO_ACCESS, OK, READ, STALE, WRITE, Refused, Stale
-from dilluvas_file import FileCache
+from dilluvas import NO_ACCESS, OK, READ, STALE, WRITE, DiskFull, FileCache, Refused, Stale
 from faults import ENDS, FAILS, PowerCut, System
 from history import History
 from journal import Journal, end_of, with_gates_open
@@ -30,7 +29,12 @@ def answer_of(cache, name, arguments):
     except Stale as stale:
         return STALE, stale.present
     except Refused as refused:
-        return refused.status, None
+        return status_of(refused), None
+
+
+def status_of(refused):
+    """Why a call was refused. A disk that is full is one of the reasons why a write fails, where a file is made."""
+    return WRITE if isinstance(refused, DiskFull) else refused.status
 
 
 class Script:
@@ -130,7 +134,7 @@ class Script:
                 self._is_unmade(is_there)
                 continue
             except Refused as refused:
-                self._is_unopened(refused.status, is_there)
+                self._is_unopened(status_of(refused), is_there)
                 continue
             self._is_opened(not is_there)
             return cache

@@ -7,10 +7,7 @@ import pathlib
 import shutil
 import tempfile
 
-import dilluvas_file
-import dilluvas_paths
-from dilluvas import HELD, NO_ACCESS, NO_FILE, OK, READ, WRITE
-from dilluvas_file import FileCache
+from dilluvas import HELD, NO_ACCESS, NO_FILE, OK, READ, WRITE, FileCache, _file, _paths
 from inputs import is_whole, status_of, written
 from machine import CORRUPTION
 
@@ -30,11 +27,11 @@ class Instead:
         return self._functions.get(name) or getattr(io if name == "FileIO" else os, name)
 
     def __enter__(self):
-        dilluvas_file.os = dilluvas_paths.os = dilluvas_paths.io = self
+        _file.os = _paths.os = _paths.io = self
 
     def __exit__(self, *_):
-        dilluvas_file.os = dilluvas_paths.os = os
-        dilluvas_paths.io = io
+        _file.os = _paths.os = os
+        _paths.io = io
 
 
 def raising(number):

@@ -16,10 +16,7 @@ import shutil
 import sys
 import tempfile
 
-import dilluvas_file
-import dilluvas_paths
-from dilluvas import HELD, Refused
-from dilluvas_file import FileCache
+from dilluvas import HELD, FileCache, Refused, _file, _paths
 
 # The calls in front of which another program may run, and those at which one may be killed: what they change outlives it.
 CALLS = {"FileIO", "lstat", "stat", "link", "unlink", "rename", "fsync", "flock"}
@@ -39,15 +36,15 @@ class Program:
         self._is_dead = False
 
     def __enter__(self):
-        self._before = dilluvas_paths.os, dilluvas_paths.fcntl, dilluvas_paths.io
+        self._before = _paths.os, _paths.fcntl, _paths.io
         self._set(*map(self._standing_in, (os, fcntl, io)))
 
     def __exit__(self, *_):
         self._set(*self._before)
 
     def _set(self, system, locks, files):
-        dilluvas_paths.os = dilluvas_file.os = system
-        dilluvas_paths.fcntl, dilluvas_paths.io = locks, files
+        _paths.os = _file.os = system
+        _paths.fcntl, _paths.io = locks, files
 
     def _standing_in(self, module):
         program = self
@@ -67,7 +64,8 @@ class Program:
         return wrapped
 
     def _come_to(self, name):
-        if self._is_dead and name in LASTING:
+        # what closing gives back is room behind the end, which changes no file
+        if self._is_dead and name in LASTING - {"ftruncate"}:
             raise Killed
         if name not in (LASTING if self._dies else CALLS):
             return
@@ -100,7 +98,7 @@ def add_and_compact(path, value):
 
 def make_in_place(path, value):
     """Makes the file where it is to stand, as `sledpc` does: it is locked before it is written."""
-    system, told = dilluvas_paths.os, []
+    system, told = _paths.os, []
     with contextlib.suppress(BlockingIOError, FileNotFoundError), locked(path) as descriptor:
         if system.fstat(descriptor).st_size == 0:
             system.pwrite(descriptor, content_of(value), 0)
@@ -110,7 +108,7 @@ def make_in_place(path, value):
 
 def make_beside(path, value):
     """Makes it by the other name, as another program may: what was left there is written over, where the path doesn't lead to it."""
-    system, told, other = dilluvas_paths.os, [], path + ".dilluvas-new"
+    system, told, other = _paths.os, [], path + ".dilluvas-new"
     if os.path.exists(path):
         return []
     with contextlib.suppress(BlockingIOError, FileNotFoundError, FileExistsError), locked(other) as descriptor:
@@ -128,10 +126,10 @@ def make_beside(path, value):
 @contextlib.contextmanager
 def locked(path):
     """A file that is locked, and that the path still leads to."""
-    system = dilluvas_paths.os
+    system = _paths.os
     descriptor = system.open(path, os.O_RDWR | os.O_CREAT, 0o666)
     try:
-        dilluvas_paths.fcntl.flock(descriptor, fcntl.LOCK_EX | fcntl.LOCK_NB)
+        _paths.fcntl.flock(descriptor, fcntl.LOCK_EX | fcntl.LOCK_NB)
         if not os.path.samestat(system.fstat(descriptor), system.stat(path)):
             raise FileNotFoundError
         yield descriptor

@@ -1,7 +1,9 @@
-from dilluvas_file import FileCache
+import dilluvas
 
-with FileCache("pages") as cache:
-    page, stamp = cache.allocate([(b"key", b"value")])
-    cache.flush()
-    for key, value in cache.get(page).pairs:
-        print(key.decode(), "=", value.decode())
+with dilluvas.open("fruit.db") as db:
+    fruit = db["fruit"]
+    fruit[b"lime"] = b"green"
+    fruit[b"fig"] = b"violet"
+    db.flush()
+    for name, colour in fruit.items():
+        print(name.decode(), "=", colour.decode())

@@ -5,8 +5,7 @@ import pathlib
 import resource
 import sys
 
-from dilluvas import HELD, NO_ACCESS, NO_FILE, READ, WRITE
-from dilluvas_file import FileCache
+from dilluvas import HELD, NO_ACCESS, NO_FILE, READ, WRITE, FileCache
 from inputs import Odd, is_raised, is_whole, status_elsewhere, status_of, written
 from machine import BATCH_OPEN, MEMORY
 

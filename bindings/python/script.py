@@ -8,8 +8,7 @@ page. The status is 0 where the script ends, 1 where the file, a stream or the m
 import re
 import sys
 
-from dilluvas import Cache, Gone, Refused, Stale
-from dilluvas_file import FileCache
+from dilluvas import Cache, FileCache, Gone, Refused, Stale
 
 LONGEST_LINE = 65536  # bytes, without the newline
 

@@ -8,9 +8,7 @@ import tempfile
 import threading
 import time
 
-import dilluvas_file
-from dilluvas import Cache, Stale
-from dilluvas_file import FileCache
+from dilluvas import Cache, FileCache, Stale, _file
 
 # So many threads change so often a page each.
 THREADS, CHANGES = 8, 60
@@ -27,11 +25,11 @@ class Alone:
         return getattr(os, name)
 
     def __enter__(self):
-        dilluvas_file.os = self
+        _file.os = self
         return self
 
     def __exit__(self, *_):
-        dilluvas_file.os = os
+        _file.os = os
 
     @contextlib.contextmanager
     def _alone(self):

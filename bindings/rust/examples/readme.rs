@@ -1,13 +1,14 @@
-use dilluvas::{Cache, Error, FileSettings};
+use dilluvas::{Db, Error};
 
 fn main() -> Result<(), Error> {
-    let mut cache = Cache::open("pages", &FileSettings::default())?;
-    let token = cache.allocate([("key", "value")])?;
-    cache.flush()?;
-    if let Some(page) = cache.get(token.page)? {
-        for (key, value) in &page {
-            println!("{} = {}", key.escape_ascii(), value.escape_ascii());
-        }
+    let db = Db::open("fruit.db")?;
+    let fruit = db.map("fruit");
+    fruit.insert("lime", "green")?;
+    fruit.insert("fig", "violet")?;
+    db.flush()?;
+    for pair in fruit.iter() {
+        let (name, colour) = pair?;
+        println!("{} = {}", name.escape_ascii(), colour.escape_ascii());
     }
     Ok(())
 }

@@ -248,8 +248,8 @@ fn error_text(error: Error) -> String {
     match error {
         Error::Arguments | Error::NoBatch => "error line".into(),
         Error::OutOfMemory => "error memory".into(),
-        Error::Read => "error read".into(),
-        Error::Write => "error write".into(),
+        Error::Read(_) => "error read".into(),
+        Error::Write(_) => "error write".into(),
         Error::Corruption => "error corruption".into(),
         other => match other.status() {
             status @ 201.. => format!("error bug {}", status - 200),

@@ -1,7 +1,7 @@
 //! Changes of which a crash leaves all or nothing.
 
-use crate::cache::{Cache, done};
-use crate::error::Error;
+use crate::cache::Cache;
+use crate::error::{Error, done};
 use crate::sys;
 use std::ops::{Deref, DerefMut};
 
@@ -46,7 +46,7 @@ impl Cache {
     /// [`BatchOpen`](Error::BatchOpen), [`LogFull`](Error::LogFull), [`OutOfMemory`](Error::OutOfMemory), [`Write`](Error::Write). No batch
     /// is opened then.
     pub fn pin(&mut self) -> Result<Batch<'_>, Error> {
-        done(self.on(sys::Handle::pin))?;
+        done(self.change(0, sys::Handle::pin)?)?;
         Ok(Batch { cache: self })
     }
 }
@@ -59,7 +59,7 @@ impl Batch<'_> {
     /// [`Write`](Error::Write); [`NoBatch`](Error::NoBatch) where another cache was put in the place of the one that it was opened in. The
     /// batch is closed in each case.
     pub fn seal(self) -> Result<(), Error> {
-        let sealed = done(self.cache.on(sys::Handle::seal));
+        let sealed = self.cache.call(sys::Handle::seal);
         std::mem::forget(self);
         sealed
     }
@@ -81,6 +81,7 @@ impl DerefMut for Batch<'_> {
 
 impl Drop for Batch<'_> {
     fn drop(&mut self) {
-        self.cache.on(sys::Handle::cancel);
+        // a write that fails is answered by each later call
+        let _ = self.cache.call(sys::Handle::cancel);
     }
 }

@@ -6,7 +6,7 @@ mod pages;
 mod rewriting;
 
 use crate::device::{Attached, Device};
-use crate::error::Error;
+use crate::error::{Error, done};
 use crate::file;
 use crate::settings::{FileSettings, Settings};
 use crate::sys;
@@ -26,13 +26,26 @@ use std::path::Path;
 ///   device is opened again: then all that was flushed is there, and of what came behind it a part may be.
 /// - [`Error::Read`] and [`Error::OutOfMemory`]: the call may be made again.
 ///
+/// Over a file each change answers [`Error::DiskFull`] where the disk has no room for it: it isn't begun, all that was changed before can be
+/// read and flushed, and changes go on once there is room. For that room is kept behind the end of the file, for a segment and for what a
+/// change may write, and goes back where the file is closed. Where the file system keeps none (`fallocate`), or a page has longer pairs than
+/// all that this opening was given, a disk that is full is a write that fails.
+///
 /// A cache in memory answers neither `Write` nor `Read` nor [`Error::Corruption`].
 pub struct Cache {
     // it is closed before the device is
     handle: sys::Handle,
     attached: Option<Attached>,
     place: Place,
+    // How many bytes the longest change of this opening was given.
+    longest: usize,
 }
+
+// A change may write pages of several pairs, which a leaf has some tens of, beside what it is given.
+const PAIRS_OF_A_LEAF: u64 = 40;
+const LEAST_ROOM: u64 = 1 << 16;
+// Neither a key nor a value has more bytes.
+const LONGEST: usize = i32::MAX as usize;
 
 // Where a cache lies, and with which settings: what a new log for it is made from.
 enum Place {
@@ -64,6 +77,7 @@ impl Cache {
             handle,
             attached: None,
             place: Place::Memory(*settings),
+            longest: 0,
         })
     }
 
@@ -105,6 +119,32 @@ impl Cache {
     pub fn open(path: impl AsRef<Path>, settings: &FileSettings) -> Result<Cache, Error> {
         let (mut cache, place) =
             file::open_or_make(path.as_ref(), |file| Cache::on_device(file, settings))?;
+        cache.place = Place::File(*settings, place);
+        Ok(cache)
+    }
+
+    /// Opens a cache over a file that is there: none is made, and no empty one is filled. Else it is as [`open`](Cache::open).
+    ///
+    /// ```
+    /// use dilluvas::{Cache, Error, FileSettings};
+    ///
+    /// # let folder = std::env::temp_dir().join(format!("dilluvas-existing-{}", std::process::id()));
+    /// # std::fs::create_dir(&folder).unwrap();
+    /// # let path = folder.join("pages");
+    /// let absent = Cache::open_existing(&path, &FileSettings::default());
+    /// assert!(matches!(absent, Err(Error::NoAccess(_))));
+    /// assert!(!path.exists());
+    /// # std::fs::remove_dir_all(&folder).unwrap();
+    /// # Ok::<(), Error>(())
+    /// ```
+    ///
+    /// # Errors
+    ///
+    /// As of [`open`](Cache::open): [`NoAccess`](Error::NoAccess) where there is no file, and [`Corruption`](Error::Corruption) where it is
+    /// empty.
+    pub fn open_existing(path: impl AsRef<Path>, settings: &FileSettings) -> Result<Cache, Error> {
+        let (mut cache, place) =
+            file::open_existing(path.as_ref(), |file| Cache::on_device(file, settings))?;
         cache.place = Place::File(*settings, place);
         Ok(cache)
     }
@@ -174,35 +214,82 @@ impl Cache {
             handle: sys::Handle::CLOSED,
             attached: Some(attached),
             place: Place::Device(*settings),
+            longest: 0,
         };
-        done(cache.on(|handle| handle.open_file(settings, len)))?;
+        cache.call(|handle| handle.open_file(settings, len))?;
         Ok(cache)
     }
 
-    // Makes a call until it is answered: over a device what it wants of that is done between.
-    pub(crate) fn on(&mut self, mut call: impl FnMut(&mut sys::Handle) -> u32) -> u32 {
+    // Whether it lies over a file that it can rewrite.
+    pub(crate) fn has_file(&self) -> bool {
+        matches!(self.place, Place::File(..))
+    }
+
+    // Makes a call that changes pages, and is given so many bytes. There is room then for what it writes and for all that is pending, so that
+    // a disk that is full refuses the call before it is made.
+    pub(crate) fn change(
+        &mut self,
+        len: usize,
+        call: impl FnMut(&mut sys::Handle) -> u32,
+    ) -> Result<u32, Error> {
+        // the call itself tells that a key or a value is too long
+        if len <= LONGEST {
+            let longest = self.longest.max(len);
+            let pairs = (longest as u64).saturating_mul(PAIRS_OF_A_LEAF);
+            let most = (longest as u64).saturating_mul(4);
+            // the pages have no more bytes than the log, and a change writes none of them more than twice
+            self.keep_room(|log| pairs.min(log.saturating_mul(2).saturating_add(most)))?;
+            self.longest = longest;
+        }
+        self.on(call)
+    }
+
+    // Keeps room for so many bytes as are wanted where the log has so many, with all that is pending, which is less than a segment.
+    pub(crate) fn keep_room(&mut self, wanted: impl FnOnce(u64) -> u64) -> Result<(), Error> {
+        let (Some(attached), Place::Device(settings) | Place::File(settings, _)) =
+            (&mut self.attached, &self.place)
+        else {
+            return Ok(());
+        };
+        let mut size = 0;
+        if self.handle.size(&mut size) != sys::OK {
+            // the call itself says why
+            return Ok(());
+        }
+        let log = size.saturating_add(settings.segment_size as u64);
+        let room = wanted(log).saturating_add(LEAST_ROOM);
+        attached.keep_room(log.saturating_add(room))
+    }
+
+    // Makes a call until it is answered: over a device what it wants of that is done between. What is no error is answered by its status.
+    pub(crate) fn on(
+        &mut self,
+        mut call: impl FnMut(&mut sys::Handle) -> u32,
+    ) -> Result<u32, Error> {
         loop {
             let status = call(&mut self.handle);
             let answer = match &mut self.attached {
-                Some(attached) => attached.settle(&mut self.handle, status),
+                Some(attached) => attached.settle(&mut self.handle, status)?,
                 None => Some(status),
             };
-            if let Some(answer) = answer {
-                return answer;
+            match answer {
+                Some(answer @ (sys::OK | sys::STALE | sys::GONE | sys::NONE | sys::SHORT)) => {
+                    return Ok(answer);
+                }
+                Some(refused) => return Err(Error::of(refused)),
+                None => {}
             }
         }
+    }
+
+    // Makes one that has no answer but that it was done.
+    pub(crate) fn call(&mut self, call: impl FnMut(&mut sys::Handle) -> u32) -> Result<(), Error> {
+        done(self.on(call)?)
     }
 }
 
 impl fmt::Debug for Cache {
     fn fmt(&self, f: &mut fmt::Formatter<'_>) -> fmt::Result {
         f.debug_struct("Cache").finish_non_exhaustive()
-    }
-}
-
-pub(crate) fn done(status: u32) -> Result<(), Error> {
-    match status {
-        sys::OK => Ok(()),
-        status => Err(Error::of(status)),
     }
 }

@@ -5,17 +5,21 @@
 //! behind the lock stays so until the lock is let go. Where a path leads to no file there is nothing to lock, and it is given one by a call
 //! that refuses where there is one.
 
+mod copying;
 mod folder;
+mod frames;
 mod locked;
 mod making;
 mod new;
 mod replacing;
 
+pub use copying::{copy_file, copy_file_with};
 pub(crate) use locked::Locked;
 pub(crate) use replacing::replace;
 
 use crate::error::Error;
 use std::fs;
+use std::io::{self, ErrorKind};
 use std::path::{Path, PathBuf};
 
 // So often is a file opened again whose place another took meanwhile.
@@ -36,11 +40,41 @@ pub(crate) fn open_or_make<T>(
     mut open: impl FnMut(Locked) -> Result<T, Error>,
 ) -> Result<(T, Place), Error> {
     let (opened, file) = open_or_make_locked(path, |file| Ok((open(file.clone())?, file)))?;
-    let place = Place {
-        file,
-        path: fs::canonicalize(path).ok(),
+    Ok((opened, Place::of(file, path)))
+}
+
+/// Opens and locks the file of a path, which is made by nobody where it is absent. One that is empty is none that a cache wrote.
+pub(crate) fn open_existing<T>(
+    path: &Path,
+    open: impl FnOnce(Locked) -> Result<T, Error>,
+) -> Result<(T, Place), Error> {
+    let Some((file, found)) = locked::open_locked(path)? else {
+        let absent = io::Error::new(ErrorKind::NotFound, "there is no such file");
+        return Err(Error::no_access(absent));
     };
-    Ok((opened, place))
+    if found.len() == 0 {
+        return Err(Error::Corruption);
+    }
+    folder::sync_name(path)?;
+    let opened = open(file.clone())?;
+    Ok((opened, Place::of(file, path)))
+}
+
+impl Place {
+    /// Gives the room back that is kept behind the end of the file: whether there was some.
+    pub(crate) fn give_back_room(&self) -> bool {
+        self.file.give_back_room()
+    }
+
+    /// Unlocks the file, of which nothing is read or written any more.
+    pub(crate) fn let_go(&self) {
+        self.file.let_go();
+    }
+
+    fn of(file: Locked, path: &Path) -> Place {
+        let path = fs::canonicalize(path).ok();
+        Place { file, path }
+    }
 }
 
 fn open_or_make_locked<T>(
@@ -61,5 +95,5 @@ fn open_or_make_locked<T>(
         }
         // another file took its place while it was made
     }
-    Err(Error::NoAccess)
+    Err(locked::is_taken())
 }

@@ -1,4 +1,33 @@
-//! Stamped pages of keys and values: safe Rust over a library whose calls are proved to do what their contracts say.
+//! Keys and values in a file: ordered maps from bytes to bytes, by safe Rust over a library whose calls are proved to do what their contracts
+//! say.
+//!
+//! ```
+//! use dilluvas::Db;
+//!
+//! # fn main() -> Result<(), dilluvas::Error> {
+//! # let folder = std::env::temp_dir().join(format!("dilluvas-{}", std::process::id()));
+//! # std::fs::create_dir(&folder).unwrap();
+//! # let path = folder.join("fruit.db");
+//! let db = Db::open(&path)?;
+//! let fruit = db.map("fruit");
+//! fruit.insert("lime", "green")?;
+//! assert_eq!(fruit.get("lime")?, Some(b"green".to_vec()));
+//! db.flush()?;
+//! # drop(db);
+//! # std::fs::remove_dir_all(&folder).unwrap();
+//! # Ok(())
+//! # }
+//! ```
+//!
+//! A [`Db`] has any number of [`Map`]s by their names, in a file or in memory, and threads share it. What was flushed is there after a crash,
+//! and [`Db::batch`] makes changes of which a crash leaves all or nothing. [`Map::range`] and [`Map::iter`] go through a map in the order of
+//! its keys, from both ends, while it is changed. The file grows by each change, until it is rewritten: by a flush that finds much of it needless
+//! ([`CompactAt`]), or by [`Db::compact`].
+//!
+//! # Pages
+//!
+//! Below the maps is a cache of pages, for stores of another kind. A page holds some keys and values and has a stamp, which each change
+//! raises by one:
 //!
 //! ```
 //! use dilluvas::{Cache, NO_PAIRS, Settings, Swap};
@@ -20,6 +49,8 @@
 //! [`Batch`], of which a crash leaves all or nothing. A log only grows, until [`Cache::compact`] rewrites it.
 //!
 //! Every method takes `&mut self`: a [`Cache`] may go to another thread, and is used by one at a time. It is `Send`, and not `Sync`.
+//!
+//! Maps lie on pages too. A [`Cache`] over their file may read these, and owes it to them that it changes none.
 
 #![deny(unsafe_code)]
 #![warn(missing_docs)]
@@ -27,9 +58,11 @@
 mod answer;
 mod batch;
 mod cache;
+mod db;
 mod device;
 mod error;
 mod file;
+mod map;
 mod page;
 mod settings;
 mod sys;
@@ -37,7 +70,10 @@ mod sys;
 pub use answer::{Amplification, Swap, Token};
 pub use batch::Batch;
 pub use cache::Cache;
+pub use db::{CompactAt, Db, DbBatch, NotSealed};
 pub use device::Device;
 pub use error::Error;
+pub use file::{copy_file, copy_file_with};
+pub use map::{Access, CompareAndSwapError, Iter, Map, Pair};
 pub use page::{NO_PAIRS, Page, Pairs};
 pub use settings::{FileSettings, Settings};

@@ -102,10 +102,7 @@ impl Page {
     /// ```
     #[must_use]
     pub fn pairs(&self) -> Pairs<'_> {
-        Pairs {
-            rest: &self.buffer[..self.used],
-            count: self.count,
-        }
+        Pairs::of(&self.buffer[..self.used], self.count)
     }
 
     /// Makes it empty. Its memory stays.
@@ -174,6 +171,13 @@ impl<'a> IntoIterator for &'a Page {
 pub struct Pairs<'a> {
     rest: &'a [u8],
     count: usize,
+}
+
+impl<'a> Pairs<'a> {
+    /// So many pairs, as the library writes them.
+    pub(crate) fn of(bytes: &'a [u8], count: usize) -> Pairs<'a> {
+        Pairs { rest: bytes, count }
+    }
 }
 
 impl<'a> Iterator for Pairs<'a> {

@@ -1,12 +1,20 @@
 //! The functions of the library, as `bindings/c/dilluvas.h` declares them, and a safe one over each, which answers the status. Nothing
-//! compares the two but the programs that call both. Behind them is one of the system's. No other module has `unsafe`.
+//! compares the two but the programs that call both. Behind them is one of the system's. No other module but those in it has `unsafe`.
 
 #![allow(unsafe_code)]
+
+mod maps;
+
+pub use maps::{Piece, Side};
 
 use crate::settings::{FileSettings, Settings};
 #[cfg(all(target_os = "linux", target_pointer_width = "64"))]
 use std::ffi::c_int;
 use std::ffi::c_void;
+use std::fs::File;
+use std::io;
+#[cfg(all(target_os = "linux", target_pointer_width = "64"))]
+use std::os::fd::AsRawFd;
 use std::ptr;
 
 pub const OK: u32 = 0;
@@ -14,10 +22,11 @@ pub const STALE: u32 = 1;
 pub const GONE: u32 = 2;
 pub const NONE: u32 = 3;
 pub const SHORT: u32 = 4;
-pub const MEMORY: u32 = 16;
 pub const READ: u32 = 17;
 pub const WRITE: u32 = 18;
 pub const NEEDS: u32 = 20;
+pub const NO_ACCESS: u32 = 33;
+pub const DISK_FULL: u32 = 35;
 
 // The kinds of a task.
 pub const NOTHING: u32 = 0;
@@ -85,6 +94,7 @@ unsafe extern "C" {
     fn dilluvas_raw_cancel(d: *mut Handle) -> u32;
     fn dilluvas_raw_flush(d: *mut Handle, written: *mut usize) -> u32;
     fn dilluvas_raw_size(d: *mut Handle, bytes: *mut u64) -> u32;
+    fn dilluvas_raw_live(d: *mut Handle, bytes: *mut u64) -> u32;
     fn dilluvas_raw_amp(d: *mut Handle, log: *mut u64, pages: *mut u64) -> u32;
     fn dilluvas_raw_gc(d: *mut Handle, moved: *mut bool) -> u32;
     fn dilluvas_raw_was_recovered(d: *mut Handle, recovered: *mut bool) -> u32;
@@ -219,6 +229,10 @@ impl Handle {
         unsafe { dilluvas_raw_size(self, bytes) }
     }
 
+    pub fn live(&mut self, bytes: &mut u64) -> u32 {
+        unsafe { dilluvas_raw_live(self, bytes) }
+    }
+
     pub fn amp(&mut self, log: &mut u64, pages: &mut u64) -> u32 {
         unsafe { dilluvas_raw_amp(self, log, pages) }
     }
@@ -261,4 +275,27 @@ pub fn longest_file() -> u64 {
 #[cfg(not(all(target_os = "linux", target_pointer_width = "64")))]
 pub fn longest_file() -> u64 {
     u64::MAX
+}
+
+/// Keeps room for so many bytes of a file from a place on (fallocate), and leaves its length.
+#[cfg(all(target_os = "linux", target_pointer_width = "64"))]
+pub fn keep_room(file: &File, at: u64, len: u64) -> io::Result<()> {
+    unsafe extern "C" {
+        fn fallocate(file: c_int, mode: c_int, at: i64, len: i64) -> c_int;
+    }
+    const KEEP_SIZE: c_int = 1;
+    let (Ok(at), Ok(len)) = (i64::try_from(at), i64::try_from(len)) else {
+        return Err(io::ErrorKind::InvalidInput.into());
+    };
+    // SAFETY: it is given numbers alone, and the file is open.
+    match unsafe { fallocate(file.as_raw_fd(), KEEP_SIZE, at, len) } {
+        0 => Ok(()),
+        _ => Err(io::Error::last_os_error()),
+    }
+}
+
+/// Keeps room for so many bytes of a file: elsewhere none is kept.
+#[cfg(not(all(target_os = "linux", target_pointer_width = "64")))]
+pub fn keep_room(_: &File, _: u64, _: u64) -> io::Result<()> {
+    Err(io::ErrorKind::Unsupported.into())
 }

@@ -1,6 +1,7 @@
 //! Caches that are rewritten: what they hold then, and what holds where a call of one of the two devices fails.
 
 mod folder;
+mod refused;
 
 use dilluvas::{Cache, Device, Error, FileSettings, NO_PAIRS, Settings, Swap, Token};
 use folder::Folder;
@@ -259,7 +260,7 @@ fn each_call_fails(of_the_new: bool, is_lasting: bool) -> u64 {
         }
         let told = done.unwrap_err();
         assert!(
-            told == Error::Read || (of_the_new && told == Error::Write),
+            told == refused::read() || (of_the_new && told == refused::write()),
             "{told:?}"
         );
         assert!(old.bytes() == bytes, "the old device was changed");

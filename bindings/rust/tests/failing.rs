@@ -2,6 +2,7 @@
 //! panic, no call is made, and what is there is what a first part of the changes left.
 
 mod model;
+mod refused;
 
 use dilluvas::{Cache, Device, Error, FileSettings, NO_PAIRS, Page, Token};
 use model::{Change, History, Model, Run, Told, is_permitted, read};
@@ -158,8 +159,8 @@ impl Told for Watch {
         last.1 = Some(answer);
     }
 
-    fn is_made_again(&mut self, cache: &mut Cache, model: &Model, error: Error) -> bool {
-        if error != Error::Read {
+    fn is_made_again(&mut self, cache: &mut Cache, model: &Model, error: &Error) -> bool {
+        if *error != refused::read() {
             return false;
         }
         self.made_again += 1;
@@ -185,7 +186,7 @@ fn made() -> (Vec<u8>, Model) {
 fn every_call_answers_write(cache: &mut Cache, device: &Shared) {
     let calls = device.calls();
     let token = Token { page: 2, stamp: 1 };
-    let refused = [
+    let answers = [
         cache.allocate(NO_PAIRS).err(),
         cache.get(2).err(),
         cache.value_into(2, "a", &mut Vec::new()).err(),
@@ -205,7 +206,8 @@ fn every_call_answers_write(cache: &mut Cache, device: &Shared) {
         cache.was_recovered().err(),
         cache.compact_to(Shared::default()).err(),
     ];
-    assert_eq!(refused, [Some(Error::Write); 18]);
+    let write = Some(refused::write());
+    assert!(answers.iter().all(|answer| *answer == write));
     assert_eq!(device.calls(), calls, "the device is left alone");
 }
 
@@ -231,7 +233,7 @@ fn end_of_changes((bytes, start): &(Vec<u8>, Model), call: u64, fault: Fault) ->
             End::BehindFailedRead
         }
         Ok(Err(error)) => {
-            assert_eq!(error, Error::Write);
+            assert_eq!(error, refused::write());
             End::AtFailedWrite
         }
         Err(_) if fault == Fault::Panic => End::AtPanic,
@@ -290,7 +292,7 @@ fn openings_fail_in_turn((bytes, model): &(Vec<u8>, Model), least: u64) {
                 break;
             }
             match opened {
-                Ok(Err(Error::Read | Error::Write)) => {}
+                Ok(Err(Error::Read(_) | Error::Write(_))) => {}
                 Err(_) if fault == Fault::Panic => {}
                 other => panic!("{other:?}"),
             }
@@ -330,7 +332,7 @@ fn each_page_comes_behind_a_read_that_failed() {
         let mut page = Page::empty();
         let found = cache.get_into(*number, &mut page);
         if device.has_failed() {
-            assert_eq!(found, Err(Error::Read));
+            assert_eq!(found, Err(refused::read()));
             assert!(page.is_empty());
             failed += 1;
         }
@@ -357,7 +359,7 @@ fn a_bad_byte_harms_no_page_in_front_of_it() {
         match cache.get(*number) {
             Ok(page) => assert_eq!(page.unwrap().len(), pairs.len()),
             Err(error) => {
-                assert_eq!(error, Error::Read);
+                assert_eq!(error, refused::read());
                 harmed += 1;
             }
         }

@@ -1,6 +1,7 @@
 //! A cache over a file of the system.
 
 mod folder;
+mod refused;
 
 use dilluvas::{Cache, Error, FileSettings, NO_PAIRS, Swap};
 use folder::Folder;
@@ -55,7 +56,7 @@ fn what_is_no_file_is_told() {
     assert_eq!(opened("/dev/null".into()), Err(Error::NoFile));
     assert_eq!(
         opened(folder.path().join("absent/pages")),
-        Err(Error::NoAccess)
+        Err(refused::no_access())
     );
     let cache = Cache::open(folder.file(), &SETTINGS).unwrap();
     assert_eq!(opened(folder.file()), Err(Error::Held));
@@ -77,7 +78,7 @@ fn what_stands_at_the_path_is_left_as_it_is() {
 
     // a link that leads to no file, and one that leads to an empty one
     symlink(at("led-to"), at("link")).unwrap();
-    assert_eq!(opened(&at("link")), Err(Error::NoAccess));
+    assert_eq!(opened(&at("link")), Err(refused::no_access()));
     assert!(!at("led-to").exists());
     fs::write(at("led-to"), b"").unwrap();
     fs::set_permissions(at("led-to"), Permissions::from_mode(0o640)).unwrap();
@@ -90,12 +91,12 @@ fn what_stands_at_the_path_is_left_as_it_is() {
     // a link by the name that a file has while it is made
     fs::write(at("other"), b"another's").unwrap();
     symlink(at("other"), at("new.dilluvas-new")).unwrap();
-    assert_eq!(opened(&at("new")), Err(Error::NoAccess));
+    assert_eq!(opened(&at("new")), Err(refused::no_access()));
     assert_eq!(fs::read(at("other")).unwrap(), b"another's");
 
     // a pipe, which isn't waited for, and no path
     let made = Command::new("mkfifo").arg(at("pipe")).status().unwrap();
     assert!(made.success());
     assert_eq!(opened(&at("pipe")), Err(Error::NoFile));
-    assert_eq!(opened(Path::new("")), Err(Error::NoAccess));
+    assert_eq!(opened(Path::new("")), Err(refused::no_access()));
 }

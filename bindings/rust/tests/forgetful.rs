@@ -121,7 +121,7 @@ fn lost(block: usize, fails_at: (u32, u32)) -> (Vec<u64>, u32) {
     let mut confirmed = BTreeSet::new();
     for _ in 0..OPENINGS {
         let refused = add_pages(&device, &mut confirmed);
-        assert!(matches!(refused, Ok(()) | Err(Error::Write)));
+        assert!(matches!(refused, Ok(()) | Err(Error::Write(_))));
     }
     let mut cache = Cache::on_device(device.left(), &SETTINGS).expect("it opens");
     let gone = confirmed

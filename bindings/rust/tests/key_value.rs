@@ -5,7 +5,7 @@
 mod example;
 mod folder;
 
-use dilluvas::{Cache, FileSettings};
+use dilluvas::Db;
 use folder::Folder;
 use std::process::Command;
 
@@ -40,13 +40,12 @@ fn keys_are_kept_over_runs() {
     }
     assert_eq!(answer(&["del", "9"]), no_key);
     let list = answer(&["list"]).unwrap();
-    let mut left: Vec<&str> = list.lines().collect();
-    left.sort_unstable();
-    let olds = [
-        "0 old", "1 old", "2 old", "3 old", "4 old", "5 old", "6 old",
-    ];
-    assert_eq!(left[..7], olds);
-    assert_eq!(left[7..], ["8 old", "seven new"]);
+    let mut left: Vec<String> = (0..9).map(|key| format!("{key} old")).collect();
+    left[7] = "8 old".into();
+    left[8] = "seven new".into();
+    assert_eq!(list.lines().collect::<Vec<_>>(), left);
+    assert_eq!(answer(&["rename", "seven", "seven"]), Ok(String::new()));
+    assert_eq!(answer(&["get", "seven"]), Ok("new\n".to_string()));
 }
 
 #[test]
@@ -54,19 +53,11 @@ fn what_is_refused_is_told() {
     let folder = Folder::new("key-value-refused");
     let told = |words: &[&str]| answer_of(&folder, words).unwrap_err();
     assert!(told(&["put", "a", "b"]).starts_with("FILE set"));
-    let mut cache = Cache::open(folder.file(), &FileSettings::default()).unwrap();
+    assert!(!folder.file().exists());
+    let db = Db::open(folder.file()).unwrap();
     assert!(told(&["list"]).starts_with("Held: "));
-
-    let keys: Vec<String> = (0..example::MOST_PAIRS)
-        .map(|n| format!("{n:04}"))
-        .collect();
-    let full = cache.allocate(keys.iter().map(|key| (key, ""))).unwrap();
-    let named = cache.cas_root(example::leaf_of("key"), None, Some(full.page));
-    assert_eq!(named, Ok(Ok(())));
-    cache.flush().unwrap();
-    drop(cache);
-    let refused = told(&["set", "key", "value"]);
-    assert_eq!(refused, "the key's leaf is full: it has 1000 pairs");
+    drop(db);
+    assert_eq!(told(&["get", "a"]), "there is no such key");
 }
 
 // It stands beside the folder of this program where all examples were built.

@@ -51,7 +51,7 @@ impl Told for Log {
         self.file.write_all(&line).unwrap();
     }
 
-    fn is_made_again(&mut self, _: &mut Cache, _: &Model, _: Error) -> bool {
+    fn is_made_again(&mut self, _: &mut Cache, _: &Model, _: &Error) -> bool {
         false
     }
 }

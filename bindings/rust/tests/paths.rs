@@ -4,8 +4,9 @@
 
 mod folder;
 mod hooks;
+mod refused;
 
-use dilluvas::{Cache, Error, FileSettings};
+use dilluvas::{Cache, Db, Error, FileSettings};
 use folder::Folder;
 use hooks::{Call, hooked};
 use std::cell::Cell;
@@ -159,8 +160,8 @@ fn what_has_the_other_name_and_is_no_file_is_told() {
     let path = folder.file();
     let rewritten = folder.path().join("rewritten");
     let mut cache = open(&rewritten).unwrap();
-    let mut told = |error| {
-        assert_eq!(opened(&path), Err(error));
+    let mut told = |error: Error| {
+        assert_eq!(opened(&path), Err(error.clone()));
         assert_eq!(cache.compact(), Err(error));
     };
     let others = [
@@ -175,7 +176,7 @@ fn what_has_the_other_name_and_is_no_file_is_told() {
         fs::remove_dir(other).unwrap();
         symlink(&rewritten, other).unwrap();
     }
-    told(Error::NoAccess);
+    told(refused::no_access());
     assert_eq!(files_in(&folder), 3);
 }
 
@@ -191,19 +192,19 @@ fn the_other_name_is_let_go_where_it_is_anothers() {
         }
     };
     let hook = at_first("pwrite64", Call::Fails(EIO), another_comes(&path));
-    assert_eq!(hooked(hook, || opened(&path)), Err(Error::Write));
+    assert_eq!(hooked(hook, || opened(&path)), Err(refused::write()));
     assert_eq!(fs::read(beside(&path)).unwrap(), b"another's");
     fs::remove_file(beside(&path)).unwrap();
 
     let mut cache = open(&path).unwrap();
     let hook = at_first("pwrite64", Call::Fails(EIO), another_comes(&path));
-    assert_eq!(hooked(hook, || cache.compact()), Err(Error::Write));
+    assert_eq!(hooked(hook, || cache.compact()), Err(refused::write()));
     assert_eq!(fs::read(beside(&path)).unwrap(), b"another's");
 
     // nor does it get the path
     let hook = at_first("pwrite64", Call::IsMade, another_comes(&path));
     fs::remove_file(beside(&path)).unwrap();
-    assert_eq!(hooked(hook, || cache.compact()), Err(Error::NoAccess));
+    assert_eq!(hooked(hook, || cache.compact()), Err(refused::no_access()));
     assert_eq!(fs::read(beside(&path)).unwrap(), b"another's");
 }
 
@@ -243,17 +244,17 @@ fn what_came_to_the_path_meanwhile_stays() {
     // where it was rewritten
     let mut cache = open(&path).unwrap();
     let hook = at_first("pwrite64", Call::IsMade, comes(&path));
-    is_left(hooked(hook, || cache.compact()), Error::NoAccess, 2);
+    is_left(hooked(hook, || cache.compact()), refused::no_access(), 2);
 
     // where it has the other name alone by now
     let moved = folder.path().join("moved");
     fs::rename(&moved, beside(&path)).unwrap();
-    assert_eq!(cache.compact(), Err(Error::NoAccess));
+    assert_eq!(cache.compact(), Err(refused::no_access()));
     fs::rename(beside(&path), &moved).unwrap();
 
     // a link to the file that was moved is no file that can be replaced
     symlink(&moved, &path).unwrap();
-    assert_eq!(cache.compact(), Err(Error::NoAccess));
+    assert_eq!(cache.compact(), Err(refused::no_access()));
     assert!(fs::symlink_metadata(&path).unwrap().is_symlink());
 }
 
@@ -269,7 +270,7 @@ fn a_file_is_made_where_none_has_a_second_name() {
     }
     assert_eq!(
         hooked(all_fail("linkat", EIO), || opened(&path)),
-        Err(Error::NoAccess)
+        Err(refused::no_access())
     );
     assert_eq!(files_in(&folder), 0);
 
@@ -296,10 +297,10 @@ fn a_name_that_may_not_be_durable_is_told() {
     assert!(!was_there.get());
     fs::remove_file(&path).unwrap();
 
-    assert_eq!(synced(EIO), Err(Error::Write));
+    assert_eq!(synced(EIO), Err(refused::write()));
     // it was made, and another process would find it
     assert!(fs::metadata(&path).unwrap().len() > 0);
-    assert_eq!(synced(EIO), Err(Error::Write));
+    assert_eq!(synced(EIO), Err(refused::write()));
     // there are systems that sync no folder
     assert_eq!(synced(EINVAL), Ok(()));
 
@@ -315,8 +316,34 @@ fn a_name_that_may_not_be_durable_is_told() {
         };
         hooked(hook, || opened(&path))
     };
-    assert_eq!(folder_fails(EMFILE), Err(Error::Write));
+    assert_eq!(folder_fails(EMFILE), Err(refused::write()));
     assert_eq!(folder_fails(EACCES), Ok(()));
+}
+
+#[test]
+fn nothing_is_written_to_a_new_file_that_a_crash_may_take_away() {
+    let folder = Folder::new("rewritten-name");
+    let db = Db::open(folder.file()).unwrap();
+    let map = db.map("m");
+    map.set("k", "v").unwrap();
+    db.flush().unwrap();
+    let told = |error: Error| {
+        let Error::Write(cause) = error else {
+            panic!("{error:?}");
+        };
+        assert_eq!(cause.raw_os_error(), Some(EIO));
+    };
+    told(hooked(all_fail("fsync", EIO), || db.compact()).unwrap_err());
+    let rewritten = fs::read(folder.file()).unwrap();
+    told(map.set("l", "w").unwrap_err());
+    told(map.get("k").unwrap_err());
+    told(db.flush().unwrap_err());
+    told(db.compact().unwrap_err());
+    drop((db, map));
+    assert!(fs::read(folder.file()).unwrap() == rewritten);
+    let map = Db::open(folder.file()).unwrap().map("m");
+    assert_eq!(map.len().unwrap(), 1);
+    assert_eq!(files_in(&folder), 1);
 }
 
 #[test]
@@ -342,8 +369,8 @@ fn a_file_of_the_system_is_no_file() {
         hooked(hook, || opened(&path))
     };
     assert_eq!(failed("fdatasync", EINVAL), Err(Error::NoFile));
-    assert_eq!(failed("fdatasync", EIO), Err(Error::Write));
-    assert_eq!(failed("pread64", EIO), Err(Error::Read));
+    assert_eq!(failed("fdatasync", EIO), Err(refused::write()));
+    assert_eq!(failed("pread64", EIO), Err(refused::read()));
     assert_eq!(fs::metadata(&path).unwrap().len(), 0);
     assert_eq!(files_in(&folder), 1);
     assert_eq!(opened(&path), Ok(()));

@@ -3,12 +3,15 @@
 
 mod folder;
 mod hooks;
+mod refused;
 
-use dilluvas::{Cache, Error, FileSettings};
+use dilluvas::{Cache, Db, Error, FileSettings};
 use folder::Folder;
 use hooks::forked;
 use std::fs;
 use std::path::Path;
+use std::sync::mpsc;
+use std::thread;
 
 fn open(path: &Path) -> Result<Cache, Error> {
     Cache::open(path, &FileSettings::default())
@@ -28,7 +31,7 @@ fn a_forked_child_leaves_the_lock_to_its_parent() {
         forked(|| {
             let mut cache = cache.take().unwrap();
             // which it could without a read of the old file
-            assert_eq!(cache.compact(), Err(Error::Write));
+            assert_eq!(cache.compact(), Err(refused::write()));
             drop(cache);
             0
         })
@@ -65,13 +68,13 @@ fn a_forked_child_does_nothing_to_the_file() {
     let status = forked(|| {
         // what wants no byte of the file goes on, and what would read it or write to it doesn't
         assert!(cache.get(last).unwrap().is_some());
-        assert_eq!(cache.get(2).map(drop), Err(Error::Read));
+        assert_eq!(cache.get(2).map(drop), Err(refused::read()));
         assert!(cache.allocate([("key", "value")]).is_ok());
-        assert_eq!(cache.compact(), Err(Error::Write));
+        assert_eq!(cache.compact(), Err(refused::write()));
         assert!(cache.size().is_ok());
         assert_eq!(open(&folder.file()).map(drop), Err(Error::Held));
-        assert_eq!(cache.flush(), Err(Error::Write));
-        assert_eq!(cache.get(last).map(drop), Err(Error::Write));
+        assert_eq!(cache.flush(), Err(refused::write()));
+        assert_eq!(cache.get(last).map(drop), Err(refused::write()));
         // another file is the child's own
         let own = folder.path().join("own");
         let mut other = open(&own).unwrap();
@@ -89,6 +92,90 @@ fn a_forked_child_does_nothing_to_the_file() {
     cache.flush().unwrap();
     drop(cache);
     assert!(open(&folder.file()).unwrap().get(last).unwrap().is_some());
+}
+
+#[test]
+fn a_forked_child_leaves_the_lock_of_a_db_to_its_parent() {
+    let folder = Folder::new("forked-db");
+    let held = || Db::open(folder.file()).map(drop) == Err(Error::Held);
+    let db = Db::open(folder.file()).unwrap();
+    let map = db.map("m");
+    map.set("k", "v").unwrap();
+    let mut kept = Some((db, map));
+    for _ in 0..2 {
+        let child = forked(|| {
+            let (db, map) = kept.take().unwrap();
+            assert_eq!(db.compact(), Err(refused::write()));
+            drop(map.iter());
+            drop((db, map));
+            0
+        });
+        assert_eq!(child, 0);
+        assert!(held());
+        // so it is with the file of one that was rewritten
+        kept.as_ref().unwrap().0.compact().unwrap();
+    }
+    let (db, map) = kept.take().unwrap();
+    map.set("l", "w").unwrap();
+    db.flush().unwrap();
+    drop((db, map));
+    assert_eq!(Db::open(folder.file()).unwrap().map("m").len(), Ok(2));
+}
+
+#[test]
+fn a_forked_child_does_nothing_to_the_file_of_a_db() {
+    let folder = Folder::new("forked-db-file");
+    let db = Db::open(folder.file()).unwrap();
+    db.map("m").set("k", "v").unwrap();
+    db.flush().unwrap();
+    drop(db);
+    let flushed = fs::read(folder.file()).unwrap();
+    // no pair that was there before is in memory
+    let db = Db::open(folder.file()).unwrap();
+    let child = forked(|| {
+        let told = |error: Error| {
+            let cause = std::error::Error::source(&error).unwrap();
+            assert!(cause.to_string().contains("parent"), "{cause}");
+            error
+        };
+        assert_eq!(told(db.map("m").get("k").unwrap_err()), refused::read());
+        assert!(db.map("other").set("k", "v").is_ok());
+        assert_eq!(told(db.flush().unwrap_err()), refused::write());
+        assert_eq!(told(db.map_names().unwrap_err()), refused::write());
+        77
+    });
+    assert_eq!(child, 77);
+    assert!(fs::read(folder.file()).unwrap() == flushed);
+    assert_eq!(db.map("m").get("k"), Ok(Some(b"v".to_vec())));
+    assert_eq!(db.map_names(), Ok(vec![b"m".to_vec()]));
+}
+
+// The thread that has the lock isn't there in the child, and never lets it go.
+#[test]
+fn a_forked_child_waits_for_no_thread_of_its_parent() {
+    let db = Db::in_memory().unwrap();
+    let (begun, has_begun) = mpsc::channel();
+    let (end, ended) = mpsc::channel::<()>();
+    thread::scope(|scope| {
+        let db = &db;
+        scope.spawn(move || {
+            db.batch(|_| {
+                begun.send(()).unwrap();
+                ended.recv().unwrap();
+                Ok(())
+            })
+        });
+        has_begun.recv().unwrap();
+        let child = forked(|| {
+            assert_eq!(db.map("m").get("k"), Err(Error::Held));
+            assert_eq!(db.flush(), Err(Error::Held));
+            0
+        });
+        end.send(()).unwrap();
+        assert_eq!(child, 0);
+    });
+    assert_eq!(db.map("m").get("k"), Ok(None));
+    assert_eq!(forked(|| i32::from(db.map("m").get("k").is_err())), 0);
 }
 
 #[repr(C)]
@@ -123,8 +210,8 @@ fn a_file_that_gets_too_long_ends_no_process() {
             let token = cache.allocate([("key", "value")]).unwrap();
             assert_eq!(token.page, 2 + pages as u64);
             if let Err(error) = cache.flush() {
-                assert_eq!(error, Error::Write);
-                assert_eq!(cache.compact(), Err(Error::Write));
+                assert_eq!(error, refused::write());
+                assert_eq!(cache.compact(), Err(refused::write()));
                 return pages;
             }
         }
@@ -153,7 +240,11 @@ fn the_limit_is_the_last_byte_that_a_file_may_have() {
         })
     };
     for bytes in 0..LEAST {
-        assert_eq!(made(bytes), Error::Write.status() as i32, "{bytes} bytes");
+        assert_eq!(
+            made(bytes),
+            refused::write().status() as i32,
+            "{bytes} bytes"
+        );
         assert_eq!(fs::read_dir(folder.path()).unwrap().count(), 0);
     }
     assert_eq!(made(LEAST), 0);

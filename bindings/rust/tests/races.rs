@@ -37,7 +37,7 @@ enum Start {
 const STARTS: [Start; 3] = [Start::Absent, Start::Empty, Start::Made];
 
 // What a program has done that was told by a name.
-#[derive(Clone, Copy, Debug, PartialEq, Eq)]
+#[derive(Clone, Debug, PartialEq, Eq)]
 enum Done {
     Flushed,
     Refused(Error),
@@ -251,7 +251,11 @@ fn let_each_two_run(name: &str, start: Start, programs: [Program; 2], is_linked:
             place.begin(start);
             let (done, have_stopped) = let_two_run(&place, programs, [first, second], is_linked);
             let told = format!("{start:?}, {programs:?} before {first} and {second}, {done:?}");
-            place.judge(start, &told, &[("one", done[0]), ("other", done[1])]);
+            place.judge(
+                start,
+                &told,
+                &[("one", done[0].clone()), ("other", done[1].clone())],
+            );
             place.has_one_file(&told);
             // where the other one has come and gone, nobody holds the file: one that makes it in its place gives up where it was replaced
             if !have_stopped[1] && programs[0] != Program::InPlace {
@@ -319,7 +323,7 @@ fn let_one_be_killed(start: Start, programs: [Program; 2], has_third: bool) {
             });
             let done = hooked(hook, || run(programs[0], &place.path, "one"));
             let told = format!("{start:?}, {programs:?} before {first} and {second}, {done:?}");
-            let mut all = vec![("one", done)];
+            let mut all = vec![("one", done.clone())];
             if third.load(Ordering::Relaxed) {
                 all.push(("third", Done::Flushed));
             }

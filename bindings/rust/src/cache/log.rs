@@ -1,8 +1,8 @@
 //! Ids, and the whole log.
 
-use super::{Cache, done};
+use super::Cache;
 use crate::answer::Amplification;
-use crate::error::Error;
+use crate::error::{Error, done};
 
 impl Cache {
     /// A number that was never given before. It ascends, and a crash may skip some.
@@ -25,7 +25,7 @@ impl Cache {
     /// number is used up then.
     pub fn generate_id(&mut self) -> Result<u64, Error> {
         let mut id = 0;
-        done(self.on(|handle| handle.generate_id(&mut id)))?;
+        done(self.change(0, |handle| handle.generate_id(&mut id))?)?;
         Ok(id)
     }
 
@@ -36,7 +36,7 @@ impl Cache {
     /// [`BatchOpen`](Error::BatchOpen), [`Write`](Error::Write).
     pub fn flush(&mut self) -> Result<usize, Error> {
         let mut written = 0;
-        done(self.on(|handle| handle.flush(&mut written)))?;
+        self.call(|handle| handle.flush(&mut written))?;
         Ok(written)
     }
 
@@ -47,7 +47,35 @@ impl Cache {
     /// [`Write`](Error::Write).
     pub fn size(&mut self) -> Result<u64, Error> {
         let mut bytes = 0;
-        done(self.on(|handle| handle.size(&mut bytes)))?;
+        self.call(|handle| handle.size(&mut bytes))?;
+        Ok(bytes)
+    }
+
+    /// How many bytes of the log make the pages, which is about what a rewriting leaves. It reads nothing, and looks at each page's place.
+    ///
+    /// ```
+    /// use dilluvas::{Cache, Settings};
+    ///
+    /// # fn main() -> Result<(), dilluvas::Error> {
+    /// let mut cache = Cache::in_memory(&Settings::default())?;
+    /// let mut token = cache.allocate([("key", "value")])?;
+    /// let live = cache.live_bytes()?;
+    /// for _ in 0..100 {
+    ///     token = cache.replace(token, [("key", "other")])?.done().expect("the token is the page's");
+    /// }
+    /// // each one took the place of the one before
+    /// assert_eq!(cache.live_bytes()?, live);
+    /// assert!(cache.size()? > 10 * live);
+    /// # Ok(())
+    /// # }
+    /// ```
+    ///
+    /// # Errors
+    ///
+    /// [`Write`](Error::Write).
+    pub fn live_bytes(&mut self) -> Result<u64, Error> {
+        let mut bytes = 0;
+        self.call(|handle| handle.live(&mut bytes))?;
         Ok(bytes)
     }
 
@@ -72,7 +100,7 @@ impl Cache {
     /// [`NotOverFile`](Error::NotOverFile) over a file or another device, or [`Write`](Error::Write) there; [`OutOfMemory`](Error::OutOfMemory).
     pub fn amplification(&mut self) -> Result<Amplification, Error> {
         let (mut log, mut pages) = (0, 0);
-        done(self.on(|handle| handle.amp(&mut log, &mut pages)))?;
+        self.call(|handle| handle.amp(&mut log, &mut pages))?;
         Ok(Amplification { log, pages })
     }
 
@@ -84,7 +112,7 @@ impl Cache {
     /// [`LogFull`](Error::LogFull), [`OutOfMemory`](Error::OutOfMemory): the page isn't due again then.
     pub fn attempt_gc(&mut self) -> Result<bool, Error> {
         let mut moved = false;
-        done(self.on(|handle| handle.gc(&mut moved)))?;
+        self.call(|handle| handle.gc(&mut moved))?;
         Ok(moved)
     }
 
@@ -95,7 +123,7 @@ impl Cache {
     /// [`Write`](Error::Write).
     pub fn was_recovered(&mut self) -> Result<bool, Error> {
         let mut recovered = false;
-        done(self.on(|handle| handle.was_recovered(&mut recovered)))?;
+        self.call(|handle| handle.was_recovered(&mut recovered))?;
         Ok(recovered)
     }
 }

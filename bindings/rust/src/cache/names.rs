@@ -1,7 +1,7 @@
 //! Named roots.
 
-use super::{Cache, done};
-use crate::error::Error;
+use super::Cache;
+use crate::error::{Error, done};
 use crate::sys;
 
 impl Cache {
@@ -12,7 +12,7 @@ impl Cache {
     /// [`OutOfMemory`](Error::OutOfMemory), [`Write`](Error::Write).
     pub fn root(&mut self, name: impl AsRef<[u8]>) -> Result<Option<u64>, Error> {
         let (name, mut page) = (name.as_ref(), 0);
-        match self.on(|handle| handle.root(name, &mut page)) {
+        match self.on(|handle| handle.root(name, &mut page))? {
             sys::OK => Ok(Some(page)),
             sys::NONE => Ok(None),
             status => Err(Error::of(status)),
@@ -51,7 +51,9 @@ impl Cache {
             return Err(Error::ReservedId);
         }
         let (name, mut root) = (name.as_ref(), old.unwrap_or(0));
-        match self.on(|handle| handle.cas_root(name, &mut root, new.unwrap_or(0))) {
+        match self.change(name.len(), |handle| {
+            handle.cas_root(name, &mut root, new.unwrap_or(0))
+        })? {
             sys::OK => Ok(Ok(())),
             sys::STALE => Ok(Err((root != 0).then_some(root))),
             status => Err(Error::of(status)),
@@ -82,7 +84,7 @@ impl Cache {
     /// [`OutOfMemory`](Error::OutOfMemory), where the leaf that was made, or the leaf and the index, stay: nothing leads to them.
     pub fn open_tree(&mut self, name: impl AsRef<[u8]>) -> Result<u64, Error> {
         let (name, mut page) = (name.as_ref(), 0);
-        done(self.on(|handle| handle.open_tree(name, &mut page)))?;
+        done(self.change(name.len(), |handle| handle.open_tree(name, &mut page))?)?;
         Ok(page)
     }
 }

@@ -1,8 +1,8 @@
 //! Making, reading, changing and freeing a page.
 
-use super::{Cache, done};
+use super::Cache;
 use crate::answer::{Swap, Token};
-use crate::error::Error;
+use crate::error::{Error, done};
 use crate::page::{Page, encoded};
 use crate::sys;
 
@@ -37,7 +37,9 @@ impl Cache {
     ) -> Result<Token, Error> {
         let pairs = encoded(pairs)?;
         let (mut page, mut stamp) = (0, 0);
-        done(self.on(|handle| handle.allocate(&pairs, &mut page, &mut stamp)))?;
+        done(self.change(pairs.len(), |handle| {
+            handle.allocate(&pairs, &mut page, &mut stamp)
+        })?)?;
         Ok(Token { page, stamp })
     }
 
@@ -80,7 +82,7 @@ impl Cache {
         let mut found = sys::Found::default();
         to.clear();
         loop {
-            match self.on(|handle| handle.get(page, &mut found, to.buffer())) {
+            match self.on(|handle| handle.get(page, &mut found, to.buffer()))? {
                 sys::OK => break,
                 sys::SHORT => to.make_room(found.needed),
                 sys::GONE => return Ok(false),
@@ -121,16 +123,16 @@ impl Cache {
         let (key, start) = (key.as_ref(), value.len());
         let (mut stamp, mut needed) = (0, 0);
         value.resize(start + USUAL_VALUE, 0);
-        let status = loop {
+        let answer = loop {
             let room = &mut value[start..];
             match self.on(|handle| handle.value(page, key, &mut stamp, room, &mut needed)) {
-                sys::SHORT => value.resize(start + needed, 0),
-                status => break status,
+                Ok(sys::SHORT) => value.resize(start + needed, 0),
+                answer => break answer,
             }
         };
-        let written = if status == sys::OK { needed } else { 0 };
+        let written = if answer == Ok(sys::OK) { needed } else { 0 };
         value.truncate(start + written);
-        match status {
+        match answer? {
             sys::OK => Ok(Some(Token { page, stamp })),
             sys::GONE | sys::NONE => Ok(None),
             status => Err(Error::of(status)),
@@ -151,7 +153,7 @@ impl Cache {
         value: impl AsRef<[u8]>,
     ) -> Result<Swap, Error> {
         let (key, value) = (key.as_ref(), value.as_ref());
-        self.swap(token, |handle, page, stamp| {
+        self.swap(token, key.len() + value.len(), |handle, page, stamp| {
             handle.set(page, stamp, key, value)
         })
     }
@@ -163,7 +165,9 @@ impl Cache {
     /// As [`set`](Cache::set).
     pub fn del(&mut self, token: Token, key: impl AsRef<[u8]>) -> Result<Swap, Error> {
         let key = key.as_ref();
-        self.swap(token, |handle, page, stamp| handle.del(page, stamp, key))
+        self.swap(token, key.len(), |handle, page, stamp| {
+            handle.del(page, stamp, key)
+        })
     }
 
     /// Puts a leaf of these pairs, whose keys ascend by their bytes, on a page in place of what it held. In memory the page that is due is
@@ -192,7 +196,7 @@ impl Cache {
         pairs: impl IntoIterator<Item = (K, V)>,
     ) -> Result<Swap, Error> {
         let pairs = encoded(pairs)?;
-        self.swap(token, |handle, page, stamp| {
+        self.swap(token, pairs.len(), |handle, page, stamp| {
             handle.replace(page, stamp, &pairs)
         })
     }
@@ -218,17 +222,18 @@ impl Cache {
     /// [`ReservedId`](Error::ReservedId), [`StampUsedUp`](Error::StampUsedUp), [`LogFull`](Error::LogFull),
     /// [`OutOfMemory`](Error::OutOfMemory), [`Write`](Error::Write).
     pub fn free(&mut self, token: Token) -> Result<Swap, Error> {
-        self.swap(token, |handle, page, stamp| handle.free(page, stamp))
+        self.swap(token, 0, |handle, page, stamp| handle.free(page, stamp))
     }
 
-    // Makes a change, which writes the stamp that the page has.
+    // Makes a change that is given so many bytes, and writes the stamp that the page has.
     fn swap(
         &mut self,
         token: Token,
+        len: usize,
         mut change: impl FnMut(&mut sys::Handle, u64, &mut u64) -> u32,
     ) -> Result<Swap, Error> {
         let Token { page, mut stamp } = token;
-        match self.on(|handle| change(handle, page, &mut stamp)) {
+        match self.change(len, |handle| change(handle, page, &mut stamp))? {
             sys::OK => Ok(Swap::Done(Token { page, stamp })),
             sys::STALE => Ok(Swap::Stale(Token { page, stamp })),
             sys::GONE => Ok(Swap::Gone),

@@ -1,11 +1,13 @@
 //! Rewriting a cache into a new log.
 
-use super::{Cache, Place, done};
+use super::{Cache, Place};
 use crate::device::{Attached, Device};
-use crate::error::Error;
+use crate::error::{Error, done};
 use crate::file;
 use crate::settings::FileSettings;
 use crate::sys;
+use std::mem;
+use std::thread;
 
 impl Cache {
     /// Rewrites the cache into a new log, which has each page as one message, and goes on over that: a log only grows else.
@@ -20,7 +22,8 @@ impl Cache {
     /// The cache is one that was opened over the new log: each page has stamp 0. A [`Token`](crate::Token) that was given before is let go,
     /// since a page may have it again with other pairs. No id comes twice.
     ///
-    /// It takes as much memory as the new log has bytes, and where pages aren't in memory up to three times as much as the old one has.
+    /// It takes as much memory as the new log has bytes, and where pages aren't in memory as much as the old one has, or twice that where that
+    /// is more than 256 MiB. What that took is given back by a thread, behind the call.
     ///
     /// ```
     /// use dilluvas::{Cache, Settings, Token};
@@ -47,19 +50,24 @@ impl Cache {
     /// page that can't be read, of which none is passed over; [`LogFull`](Error::LogFull); [`NoFile`](Error::NoFile) and
     /// [`NoAccess`](Error::NoAccess) where the new file can't be made, or the path doesn't lead to the file by now; [`Held`](Error::Held) where
     /// a process makes one by that name; [`NoFile`](Error::NoFile) for a cache on another device, which [`compact_to`](Cache::compact_to)
-    /// rewrites. The file and the cache are what they were then. So they are at [`Write`](Error::Write) too where the new file couldn't be
-    /// written or synced, and in a child that was forked, which replaces no file of its parent. Where the folder couldn't be synced every later
-    /// call answers that: the new file is there, but a crash may bring back the old one.
+    /// rewrites; [`DiskFull`](Error::DiskFull) where the new file has no room, before which all that was pending was flushed, and the room
+    /// that is kept for changes was given back to it. The file and the cache are what they were then. So they are at
+    /// [`Write`](Error::Write) too where the new file couldn't be written or synced, and in a child that was forked, which replaces no file of
+    /// its parent. Where the folder couldn't be synced every later call answers that: the new file is there, but a crash may bring back the
+    /// old one.
     pub fn compact(&mut self) -> Result<(), Error> {
         match &self.place {
             Place::Memory(settings) => {
                 let settings = *settings;
-                done(self.on(|handle| handle.compact(&settings)))
+                self.call(|handle| handle.compact(&settings))
             }
             Place::Device(_) => Err(Error::NoFile),
             Place::File(settings, place) => {
                 let (settings, place) = (*settings, place.clone());
-                self.compact_file(settings, &place)
+                match self.compact_file(settings, &place) {
+                    Err(full @ Error::DiskFull(_)) => self.compact_without_room(&place, full),
+                    compacted => compacted,
+                }
             }
         }
     }
@@ -86,16 +94,37 @@ impl Cache {
         Ok(())
     }
 
+    // The same once the room that is kept for what is pending was given back, which the new file may take where nothing is pending.
+    fn compact_without_room(&mut self, place: &file::Place, full: Error) -> Result<(), Error> {
+        self.flush()?;
+        if !place.give_back_room() {
+            return Err(full);
+        }
+        if let Some(attached) = &mut self.attached {
+            attached.forget_room();
+        }
+        let Place::File(settings, _) = self.place else {
+            return Err(full);
+        };
+        self.compact_file(settings, place)
+    }
+
     fn compact_file(&mut self, settings: FileSettings, place: &file::Place) -> Result<(), Error> {
         // behind a write that failed no file is made
         self.size()?;
         let replaced = file::replace(place, |file| self.rewritten(Box::new(file), &settings))?;
-        *self = replaced.opened;
+        let old = mem::replace(self, replaced.opened);
         self.place = Place::File(settings, replaced.place);
         // which of the two files a crash leaves isn't known where this fails, so nothing is written to the new one
-        replaced.folder.sync().inspect_err(|_| {
-            self.handle.failed();
-        })
+        let synced = replaced.folder.sync().inspect_err(|error| {
+            if let Some(attached) = &mut self.attached {
+                attached.fail(&mut self.handle, error);
+            }
+        });
+        place.let_go();
+        // its memory and its file take a while to be given back, for which nobody waits
+        let _ = thread::Builder::new().spawn(|| drop(old));
+        synced
     }
 
     // A cache over the new log of a device into which this one was rewritten.
@@ -112,34 +141,33 @@ impl Cache {
             handle: sys::Handle::CLOSED,
             attached: Some(attached),
             place: Place::Device(*settings),
+            longest: 0,
         };
-        let status = self.rewrite_into(&mut next, settings);
+        let rewritten = self.rewrite_into(&mut next, settings);
         self.handle.forget();
-        done(status)?;
-        done(next.on(|handle| handle.open_file(settings, 0)))?;
+        rewritten.map_err(Error::or_disk_full)?;
+        let opened = next.call(|handle| handle.open_file(settings, 0));
+        opened.map_err(Error::or_disk_full)?;
         Ok(next)
     }
 
     // Rewrites the cache into the log of another one, of which no cache is open yet. That is begun anew where bytes of the device are
     // needed. Of these ever more are handed in together, so that it begins no more often than the device's length has digits.
-    fn rewrite_into(&mut self, next: &mut Cache, settings: &FileSettings) -> u32 {
+    fn rewrite_into(&mut self, next: &mut Cache, settings: &FileSettings) -> Result<(), Error> {
         let mut part = LEAST_PART;
         loop {
-            let status = next.on(|handle| handle.new_log(settings));
-            if status != sys::OK {
-                return status;
-            }
+            next.call(|handle| handle.new_log(settings))?;
             let status = self.handle.rewrite(&mut next.handle);
             let Some(attached) = &mut self.attached else {
-                return status;
+                return done(status);
             };
-            match attached.settle_in_parts(&mut self.handle, status, part) {
-                Some(answer) => return answer,
-                None => part = part.saturating_mul(4),
+            match attached.settle_in_parts(&mut self.handle, status, part)? {
+                Some(status) => return done(status),
+                None => part = part.saturating_mul(64),
             }
         }
     }
 }
 
-// So many bytes of a device are read together first.
+// So many bytes of a device are read together first, and then 64 times as many: that is all of most.
 const LEAST_PART: u64 = 4 << 20;

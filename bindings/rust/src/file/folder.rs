@@ -11,7 +11,7 @@ pub(crate) struct Folder(File);
 impl Folder {
     /// Opens that of a path.
     pub(super) fn of(path: &Path) -> Result<Folder, Error> {
-        let folder = File::open(name_of(path)).map_err(|_| Error::NoAccess)?;
+        let folder = File::open(name_of(path)).map_err(Error::no_access)?;
         Ok(Folder(folder))
     }
 
@@ -19,7 +19,7 @@ impl Folder {
     pub(crate) fn sync(&self) -> Result<(), Error> {
         match self.0.sync_all() {
             // there are systems that sync no folder
-            Err(error) if error.kind() != ErrorKind::InvalidInput => Err(Error::Write),
+            Err(error) if error.kind() != ErrorKind::InvalidInput => Err(Error::write(error)),
             _ => Ok(()),
         }
     }
@@ -38,6 +38,6 @@ pub(super) fn sync_name(path: &Path) -> Result<(), Error> {
         Ok(folder) => Folder(folder).sync(),
         // a folder that may not be read is synced by nobody
         Err(error) if error.kind() == ErrorKind::PermissionDenied => Ok(()),
-        Err(_) => Err(Error::Write),
+        Err(error) => Err(Error::write(error)),
     }
 }

@@ -2,7 +2,7 @@
 
 use super::MOST_TRIES;
 use crate::device::Device;
-use crate::error::Error;
+use crate::error::{Error, is_of_room};
 use crate::sys;
 use std::fs::{self, File, Metadata, OpenOptions, TryLockError};
 use std::io::{self, ErrorKind};
@@ -10,6 +10,7 @@ use std::os::unix::fs::{FileExt, MetadataExt};
 use std::path::Path;
 use std::process;
 use std::sync::Arc;
+use std::sync::atomic::{AtomicBool, Ordering};
 
 /// A file that is locked, until the last of its clones is dropped.
 ///
@@ -21,27 +22,49 @@ pub(crate) struct Locked(Arc<Open>);
 struct Open {
     file: File,
     process: u32,
+    // Room is kept behind its end.
+    keeps_room: AtomicBool,
+    // Whoever opens its path is shown another file yet, so that it need not be durable.
+    puts_syncs_off: AtomicBool,
+    is_unlocked: AtomicBool,
+}
+
+impl Open {
+    // Unlocks it once, and doesn't only close it: a process that is just being started has it open too.
+    fn unlock(&self) {
+        if self.process != process::id() || self.is_unlocked.swap(true, Ordering::Relaxed) {
+            return;
+        }
+        // where it stays it is of use to the next opening
+        self.give_back_room();
+        // closing it does so too
+        let _ = self.file.unlock();
+    }
+}
+
+impl Open {
+    // Gives the room back that is kept behind the end: whether there was some.
+    fn give_back_room(&self) -> bool {
+        self.process == process::id()
+            && self.keeps_room.load(Ordering::Relaxed)
+            && self
+                .file
+                .metadata()
+                .and_then(|found| self.file.set_len(found.len()))
+                .is_ok()
+    }
 }
 
 impl Drop for Open {
-    // It is unlocked, and not only closed: a process that is just being started has it open too.
     fn drop(&mut self) {
-        if self.process == process::id() {
-            // closing it does so too
-            let _ = self.file.unlock();
-        }
+        self.unlock();
     }
 }
 
 impl Locked {
-    /// Whether this is the process that locked it, and none that was forked since.
-    pub(super) fn is_ours(&self) -> bool {
-        self.0.process == process::id()
-    }
-
-    /// The file, for the process that locked it.
+    /// The file, for the process that locked it, and for none that was forked since.
     pub(super) fn ours(&self) -> io::Result<&File> {
-        if self.is_ours() {
+        if self.0.process == process::id() {
             Ok(&self.0.file)
         } else {
             Err(io::Error::other("the file is that of the parent process"))
@@ -55,21 +78,43 @@ impl Locked {
             .is_ok_and(|present| found.is_ok_and(|found| are_one_file(&present, &found)))
     }
 
+    /// Gives the room back that is kept behind its end: whether there was some.
+    pub(super) fn give_back_room(&self) -> bool {
+        self.0.give_back_room()
+    }
+
+    /// Unlocks it before its clones are dropped, which don't use it any more.
+    pub(super) fn let_go(&self) {
+        self.0.unlock();
+    }
+
+    /// Lets each sync wait until [`sync_all`](Locked::sync_all), for a file that is at no path until that is done.
+    pub(super) fn put_syncs_off(&self) {
+        self.0.puts_syncs_off.store(true, Ordering::Relaxed);
+    }
+
+    /// Makes durable all that was written to it, and lets no later sync wait.
+    pub(super) fn sync_all(&self) -> io::Result<()> {
+        self.ours()?.sync_data()?;
+        self.0.puts_syncs_off.store(false, Ordering::Relaxed);
+        Ok(())
+    }
+
     /// What the system says of it now.
     pub(super) fn metadata(&self) -> Result<Metadata, Error> {
-        self.0.file.metadata().map_err(|_| Error::Read)
+        self.0.file.metadata().map_err(Error::read)
     }
 
     /// Refuses a file that has no bytes as the system says, and is the system's own, as those of `/proc` are: it isn't synced, or has some.
     pub(super) fn check_empty(&self) -> Result<(), Error> {
         match self.0.file.sync_data() {
             Err(error) if error.kind() == ErrorKind::InvalidInput => return Err(Error::NoFile),
-            synced => synced.map_err(|_| Error::Write)?,
+            synced => synced.map_err(Error::write)?,
         }
         match self.0.file.read_at(&mut [0], 0) {
             Ok(0) => Ok(()),
             Ok(_) => Err(Error::NoFile),
-            Err(_) => Err(Error::Read),
+            Err(error) => Err(Error::read(error)),
         }
     }
 }
@@ -93,7 +138,27 @@ impl Device for Locked {
     }
 
     fn sync(&mut self) -> io::Result<()> {
-        self.ours()?.sync_data()
+        let file = self.ours()?;
+        if self.0.puts_syncs_off.load(Ordering::Relaxed) {
+            return Ok(());
+        }
+        file.sync_data()
+    }
+
+    // Where the file system keeps no room, a file may get no longer, or it is that of the parent process, a write tells so.
+    fn keep_room(&mut self, from: u64, to: u64) -> io::Result<()> {
+        let Ok(file) = self.ours() else {
+            return Ok(());
+        };
+        let to = to.min(sys::longest_file());
+        if to <= from {
+            return Ok(());
+        }
+        self.0.keeps_room.store(true, Ordering::Relaxed);
+        match sys::keep_room(file, from, to - from) {
+            Err(error) if is_of_room(&error) => Err(error),
+            _ => Ok(()),
+        }
     }
 }
 
@@ -109,7 +174,7 @@ pub(super) fn open_locked(path: &Path) -> Result<Option<(Locked, Metadata)>, Err
         let file = match options.open(path) {
             Ok(file) => file,
             Err(error) if error.kind() == ErrorKind::NotFound => return Ok(None),
-            Err(error) => return Err(refusal(&error)),
+            Err(error) => return Err(refusal(error)),
         };
         let (file, found) = lock(file)?;
         if fs::metadata(path).is_ok_and(|present| are_one_file(&present, &found)) {
@@ -117,35 +182,47 @@ pub(super) fn open_locked(path: &Path) -> Result<Option<(Locked, Metadata)>, Err
         }
         // another file took its place before it was locked
     }
-    Err(Error::NoAccess)
+    Err(is_taken())
+}
+
+/// That a name led to another file each time that one was locked.
+pub(super) fn is_taken() -> Error {
+    Error::no_access(io::Error::other("other processes take its place"))
 }
 
 /// Why a file couldn't be opened.
-pub(super) fn refusal(error: &io::Error) -> Error {
+pub(super) fn refusal(error: io::Error) -> Error {
     match error.kind() {
         ErrorKind::IsADirectory => Error::NoFile,
-        _ => Error::NoAccess,
+        _ => Error::no_access(error),
     }
 }
 
 /// Locks a file, and answers what the system says of it behind the lock.
 pub(super) fn lock(file: File) -> Result<(Locked, Metadata), Error> {
-    let found = file.metadata().map_err(|_| Error::Read)?;
+    let found = file.metadata().map_err(Error::read)?;
     if !found.is_file() {
         return Err(Error::NoFile);
     }
     match file.try_lock() {
         Ok(()) => {}
         Err(TryLockError::WouldBlock) => return Err(Error::Held),
-        Err(TryLockError::Error(_)) => return Err(Error::NoAccess),
+        Err(TryLockError::Error(error)) => return Err(Error::no_access(error)),
     }
     let process = process::id();
-    let file = Locked(Arc::new(Open { file, process }));
+    let file = Locked(Arc::new(Open {
+        file,
+        process,
+        keeps_room: AtomicBool::new(false),
+        puts_syncs_off: AtomicBool::new(false),
+        is_unlocked: AtomicBool::new(false),
+    }));
     // it may have grown before
     let found = file.metadata()?;
     Ok((file, found))
 }
 
-fn are_one_file(one: &Metadata, other: &Metadata) -> bool {
+/// Whether both tell of the same file.
+pub(super) fn are_one_file(one: &Metadata, other: &Metadata) -> bool {
     (one.dev(), one.ino()) == (other.dev(), other.ino())
 }

@@ -5,7 +5,7 @@ use super::locked::Locked;
 use super::new::New;
 use crate::error::Error;
 use std::fs::{self, Metadata};
-use std::io::ErrorKind;
+use std::io::{self, ErrorKind};
 use std::path::Path;
 
 /// Makes a file where a path leads to none.
@@ -17,16 +17,17 @@ pub(super) fn make_absent<T>(
     open: impl FnOnce(Locked) -> Result<T, Error>,
 ) -> Result<Option<T>, Error> {
     match fs::symlink_metadata(path) {
-        _ if path.as_os_str().is_empty() => return Err(Error::NoAccess),
+        _ if path.as_os_str().is_empty() => return Err(leads_nowhere("the path is empty")),
         // where a link leads to no file, none is made
-        Ok(found) if found.is_symlink() => return Err(Error::NoAccess),
+        Ok(found) if found.is_symlink() => return Err(leads_nowhere("it is a link to no file")),
         Ok(_) => return Ok(None),
         Err(error) if error.kind() == ErrorKind::NotFound => {}
-        Err(_) => return Err(Error::NoAccess),
+        Err(error) => return Err(Error::no_access(error)),
     }
     let folder = Folder::of(path)?;
     let new = New::beside(path, None)?;
     let opened = open(new.file())?;
+    new.sync()?;
     if !new.put_at(path)? {
         return Ok(None);
     }
@@ -42,7 +43,7 @@ pub(super) fn make_of_empty<T>(
     open: impl FnOnce(Locked) -> Result<T, Error>,
 ) -> Result<Option<T>, Error> {
     empty.check_empty()?;
-    let path = fs::canonicalize(path).map_err(|_| Error::NoAccess)?;
+    let path = fs::canonicalize(path).map_err(Error::no_access)?;
     if !empty.is_at(&path) {
         return Ok(None);
     }
@@ -50,10 +51,15 @@ pub(super) fn make_of_empty<T>(
     let new = New::beside(&path, Some(empty))?;
     new.give_owner_and_mode(found)?;
     let opened = open(new.file())?;
+    new.sync()?;
     // who locks no file may have written to it
     if empty.metadata()?.len() > 0 || !new.put_over(&path, empty)? {
         return Ok(None);
     }
     folder.sync()?;
     Ok(Some(opened))
+}
+
+fn leads_nowhere(text: &'static str) -> Error {
+    Error::no_access(io::Error::new(ErrorKind::NotFound, text))
 }

@@ -1,7 +1,7 @@
 //! A new file, which is made beside the one whose place it is to take.
 
 use super::MOST_TRIES;
-use super::locked::{Locked, lock, refusal};
+use super::locked::{Locked, is_taken, lock, refusal};
 use crate::error::Error;
 use std::ffi::OsString;
 use std::fs::{self, Metadata, OpenOptions};
@@ -29,7 +29,7 @@ impl New {
                 take_away(&name)?;
             }
             let is_there = match fs::symlink_metadata(&name) {
-                Ok(found) if found.is_symlink() => return Err(Error::NoAccess),
+                Ok(found) if found.is_symlink() => return Err(is_link(&name)),
                 Ok(found) if !found.is_file() => return Err(Error::NoFile),
                 found => found.is_ok(),
             };
@@ -37,7 +37,7 @@ impl New {
                 Ok(file) => file,
                 Err(error) if error.kind() == ErrorKind::AlreadyExists => continue,
                 Err(error) if is_there && error.kind() == ErrorKind::NotFound => continue,
-                Err(error) => return Err(refusal(&error)),
+                Err(error) => return Err(refusal(error)),
             };
             let (file, found) = lock(file)?;
             if !file.is_at(&name) {
@@ -45,12 +45,13 @@ impl New {
                 continue;
             }
             if !is_there && found.len() == 0 {
+                file.put_syncs_off();
                 return Ok(New { file, name });
             }
             // a process that was killed left it
             take_away(&name)?;
         }
-        Err(Error::NoAccess)
+        Err(is_taken())
     }
 
     /// The file.
@@ -58,9 +59,14 @@ impl New {
         self.file.clone()
     }
 
+    /// Makes it durable, before it has a path: the syncs of who wrote it waited for this one.
+    pub(super) fn sync(&self) -> Result<(), Error> {
+        self.file.sync_all().map_err(Error::write)
+    }
+
     /// Gives it the owner and the mode of the file whose place it takes.
     pub(super) fn give_owner_and_mode(&self, old: &Metadata) -> Result<(), Error> {
-        self.try_to_give(old).map_err(|_| Error::Write)
+        self.try_to_give(old).map_err(Error::write)
     }
 
     fn try_to_give(&self, old: &Metadata) -> io::Result<()> {
@@ -88,7 +94,7 @@ impl New {
             }
             Err(error) if error.kind() == ErrorKind::AlreadyExists => Ok(false),
             Err(error) if is_of_no_links(&error) => put_empty(path).map(|()| false),
-            Err(_) => Err(Error::NoAccess),
+            Err(error) => Err(Error::no_access(error)),
         }
     }
 
@@ -97,7 +103,7 @@ impl New {
         if !self.file.is_at(&self.name) || !old.is_at(path) {
             return Ok(false);
         }
-        fs::rename(&self.name, path).map_err(|_| Error::NoAccess)?;
+        fs::rename(&self.name, path).map_err(Error::no_access)?;
         Ok(true)
     }
 
@@ -123,8 +129,14 @@ fn name_while_made(path: &Path) -> PathBuf {
     PathBuf::from(name)
 }
 
+// A link by the other name may lead to any file, so it is left alone.
+fn is_link(name: &Path) -> Error {
+    let told = format!("{} is a link", name.display());
+    Error::no_access(io::Error::other(told))
+}
+
 fn take_away(name: &Path) -> Result<(), Error> {
-    fs::remove_file(name).map_err(|_| Error::NoAccess)
+    fs::remove_file(name).map_err(Error::no_access)
 }
 
 // Whether the file system gives a file no second name.
@@ -138,7 +150,7 @@ fn is_of_no_links(error: &io::Error) -> bool {
 // Makes an empty file where there is none.
 fn put_empty(path: &Path) -> Result<(), Error> {
     match OpenOptions::new().write(true).create_new(true).open(path) {
-        Err(error) if error.kind() != ErrorKind::AlreadyExists => Err(Error::NoAccess),
+        Err(error) if error.kind() != ErrorKind::AlreadyExists => Err(Error::no_access(error)),
         _ => Ok(()),
     }
 }

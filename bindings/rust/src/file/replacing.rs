@@ -5,6 +5,7 @@ use super::folder::Folder;
 use super::locked::Locked;
 use super::new::New;
 use crate::error::Error;
+use std::io;
 
 /// A file that took the place of another, whose name isn't durable until its folder is synced.
 pub(crate) struct Replaced<T> {
@@ -19,20 +20,19 @@ pub(crate) fn replace<T>(
     place: &Place,
     open: impl FnOnce(Locked) -> Result<T, Error>,
 ) -> Result<Replaced<T>, Error> {
-    if !place.file.is_ours() {
-        return Err(Error::Write);
-    }
-    let path = place.path.as_deref().ok_or(Error::NoAccess)?;
+    place.file.ours().map_err(Error::write)?;
+    let path = place.path.as_deref().ok_or_else(leads_elsewhere)?;
     let folder = Folder::of(path)?;
     if !place.file.is_at(path) {
-        return Err(Error::NoAccess);
+        return Err(leads_elsewhere());
     }
     let found = place.file.metadata()?;
     let new = New::beside(path, Some(&place.file))?;
     new.give_owner_and_mode(&found)?;
     let opened = open(new.file())?;
+    new.sync().map_err(Error::or_disk_full)?;
     if !new.put_over(path, &place.file)? {
-        return Err(Error::NoAccess);
+        return Err(leads_elsewhere());
     }
     let place = Place {
         file: new.file(),
@@ -43,4 +43,10 @@ pub(crate) fn replace<T>(
         place,
         folder,
     })
+}
+
+fn leads_elsewhere() -> Error {
+    Error::no_access(io::Error::other(
+        "the path doesn't lead to the file any more",
+    ))
 }

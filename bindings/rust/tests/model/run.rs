@@ -42,7 +42,7 @@ pub trait Told {
     fn answered(&mut self, answer: u64);
 
     /// It was refused. True: it is made again.
-    fn is_made_again(&mut self, cache: &mut Cache, model: &Model, error: Error) -> bool;
+    fn is_made_again(&mut self, cache: &mut Cache, model: &Model, error: &Error) -> bool;
 }
 
 impl<T: Told> Run<T> {
@@ -109,7 +109,7 @@ impl<T: Told> Run<T> {
                     self.answer(change, answer);
                     return Ok(());
                 }
-                Err(error) if self.told.is_made_again(cache, &self.model, error) => {}
+                Err(error) if self.told.is_made_again(cache, &self.model, &error) => {}
                 Err(error) => return Err(error),
             }
         }

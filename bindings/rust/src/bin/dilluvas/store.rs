@@ -1,0 +1,28 @@
+//! How the command opens a file.
+
+use crate::failure::Failure;
+use dilluvas::{Cache, Db, FileSettings};
+use std::path::Path;
+
+// The interval of ids is never smaller than that of a program over the same file is likely to be: an id would come twice else. A rewriting
+// skips twice as many.
+const SETTINGS: FileSettings = FileSettings {
+    cache_capacity: 64 << 20,
+    idgen_persist_interval: 1 << 20,
+    segment_size: 1 << 20,
+};
+
+/// The maps of a file that is there.
+pub fn open_existing(file: &Path) -> Result<Db, Failure> {
+    Ok(Db::open_existing_with(file, &SETTINGS)?)
+}
+
+/// The maps of a file, which is made where it is absent.
+pub fn open_or_make(file: &Path) -> Result<Db, Failure> {
+    Ok(Db::open_with(file, &SETTINGS)?)
+}
+
+/// The pages of a file that is there.
+pub fn open_pages(file: &Path) -> Result<Cache, Failure> {
+    Ok(Cache::open_existing(file, &SETTINGS)?)
+}
