@@ -6,10 +6,9 @@
 ghost use Rattle.std.specs.Prelude.{◌≡◌};
 
 use sled_pagecache::{Config, Device, Error, MemLog, PageCache};
-use sled_shared::{Called, Entry, Gate, SharedPageCache, Tally, run_crew};
+use sled_shared::{Blank, Called, Entry, Gate, SharedPageCache, Tally, run_crew};
 use std::alloc::Global;
 use std::marker::Brand;
-use std::sync::ledger::Blank;
 use std::sync::{Arc, Wait};
 use std::thread::Threads;
 
@@ -34,7 +33,7 @@ impl Gate for Open {
 /// The first two conditions name the ledger, and are met where `main` calls `draw`. The third asks for nothing: `K.known` would say that
 /// the cache's pages are known, and then the book would be known to replay from them.
 fn share_new<K: Tally>(alloc: Global, blank: Blank) -> Result<SharedPageCache<MemLog, K>, Error>
-    requires name { blank.name ≡ K.name }
+    requires name { (blank.name ≡ K.name) × (blank.history ≡ K.history) }
     requires parts { (blank.parts ≡ 5) × (K.parts ≡ 5) }
     requires unknown { K.known → ⊥ }
 {
@@ -58,7 +57,7 @@ fn draw<K: Tally + Send + Sync + 'static, R: Threads + Wait + Copy + Send + 'sta
     blank: Blank,
     times: u64,
 ) -> Result<(usize, bool), Error>
-    requires name { blank.name ≡ K.name }
+    requires name { (blank.name ≡ K.name) × (blank.history ≡ K.history) }
     requires parts { (blank.parts ≡ 5) × (K.parts ≡ 5) }
     requires unknown { K.known → ⊥ }
 {

@@ -1,10 +1,11 @@
 -- Lists of one item, of two and of three, a log that holds nothing, the calls of a crew, and what words ask for.
-use Rattle.std.proofs.Common.{◌≡◌, ◌≢◌, ℕ, ◌+◌, ◌*◌, ◌<◌, ◌≤◌, ◌^◌, sum, mul-suc, mul_comm, Option, None, Some, Result, Ok, Err, mul-le-mul_left, zero, suc, true, List, [], ◌∷◌, length, map, get_or, sym, ap, ◌∙◌, arith, inl, inr}
+use Rattle.std.proofs.Common.{◌≡◌, ◌≢◌, ℕ, ◌+◌, ◌*◌, ◌<◌, ◌≤◌, ◌^◌, sum, sum_by, refl, mul-suc, mul_comm, Option, None, Some, Result, Ok, Err, mul-le-mul_left, zero, suc, true, List, [], ◌∷◌, length, map, get_or, sym, ap, ◌∙◌, arith, inl, inr}
 use Rattle.std.specs.Io.KnownBytes.{Appends}
 use Rattle.std.proofs.lemmas.Fmt.{decimal_injective}
 use Rattle.std.proofs.lemmas.List.Sums.{sum_by-cons}
 use Rattle.sled_base.specs.Order.{Bytes}
 use Rattle.sled_lines.specs.Output.{Writes}
+use Rattle.sled_shared.specs.Held.{Share, count_of}
 use Rattle.sled_script.specs.Job.{AskForScript, AskForCrew}
 use Rattle.sled_script.specs.Settings.{status_of, ended}
 use Rattle.sled_log.specs.Messages.{Message}
@@ -53,20 +54,25 @@ some_missing e = cc
 
 -- ---- the calls of a crew
 
+-- the sum of the counts
+sum_counts : (shares : List Share) → sum (map (λ share. count_of share) shares) ≡ sum_by count_of shares
+sum_counts [] = refl
+sum_counts (share ∷ shares) = sum_by-cons (λ n. n) (count_of share) (map (λ share. count_of share) shares) ∙ (ap (λ s. count_of share + s) (sum_counts shares) ∙ sym (sum_by-cons count_of share shares))
+
 -- counts that all rise by the same
-sum_raised : (counts : List ℕ) (calls : ℕ) → sum (map (λ count. count + calls) counts) ≡ sum counts + calls * length counts
+sum_raised : (shares : List Share) (calls : ℕ) → sum (map (λ share. count_of share + calls) shares) ≡ sum_by count_of shares + calls * length shares
 sum_raised [] calls = omega arith
-sum_raised (count ∷ counts) calls =
-    let left = sum_by-cons (λ n. n) (count + calls) (map (λ count. count + calls) counts) in
-    let right = sum_by-cons (λ n. n) count counts in
-    let more : (count + calls) + (sum counts + calls * length counts) ≡ (count + sum counts) + calls * suc (length counts) = omega (arith, mul-suc calls (length counts)) in
-    left ∙ ap (λ s. (count + calls) + s) (sum_raised counts calls) ∙ more ∙ ap (λ s. s + calls * suc (length counts)) (sym right)
+sum_raised (share ∷ shares) calls =
+    let left = sum_by-cons (λ n. n) (count_of share + calls) (map (λ share. count_of share + calls) shares) in
+    let right = sum_by-cons count_of share shares in
+    let more : (count_of share + calls) + (sum_by count_of shares + calls * length shares) ≡ (count_of share + sum_by count_of shares) + calls * suc (length shares) = omega (arith, mul-suc calls (length shares)) in
+    left ∙ ap (λ s. (count_of share + calls) + s) (sum_raised shares calls) ∙ more ∙ ap (λ s. s + calls * suc (length shares)) (sym right)
 
 -- each of so many new shares counts so many calls
-pub crew_sum : (shares back : List ℕ) (workers calls : ℕ) → back ≡ map (λ count. count + calls) shares → sum shares ≡ 0 → length shares ≡ workers → sum back ≡ workers * calls
+pub crew_sum : (shares back : List Share) (workers calls : ℕ) → map (λ share. count_of share) back ≡ map (λ share. count_of share + calls) shares → sum_by count_of shares ≡ 0 → length shares ≡ workers → sum_by count_of back ≡ workers * calls
 crew_sum shares back workers calls e none all =
     let made : calls * length shares ≡ workers * calls = ap (λ n. calls * n) all ∙ mul_comm calls workers in
-    omega (arith, ap sum e, sum_raised shares calls, none, made)
+    omega (arith, ap sum e, sum_counts back, sum_raised shares calls, none, made)
 
 pub crew_fits : (workers calls : ℕ) → workers ≤ 64 → calls ≤ 10000 → workers * calls < 2 ^ 64
 crew_fits workers calls few short = omega (arith, mul-le-mul_left workers short)

@@ -21,12 +21,12 @@ use sled_lines::output::write_rest;
 use sled_lines::words::number_of;
 use sled_lines::{Piece, Unwritten};
 use sled_pagecache::{Config, Error, MemLog, PageCache};
+use sled_shared::Blank;
 use std::alloc::{AllocGlobal, Global};
 use std::fs::{File, Files};
 use std::io::{Read, Write};
 use std::marker::Brand;
 use std::sync::Wait;
-use std::sync::ledger::Blank;
 use std::thread::Threads;
 
 /// The script ended with its input.

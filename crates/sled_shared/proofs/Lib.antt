@@ -1,6 +1,9 @@
+pub mod HistorySteps
+pub mod HistoryWalks
 pub mod Unread
 pub mod Trees
 pub mod Replays
 pub mod Replaying
 pub mod Ids
 pub mod Batching
+pub mod Drawn

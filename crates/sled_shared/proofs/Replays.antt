@@ -1,5 +1,6 @@
 -- A book goes on by one entry, and so does what a held cache keeps.
-use Rattle.std.proofs.Common.{inl, inr, ◌⊎◌, ◌||◌, ◌==◌, ℕ, Bool, true, false, MatchBool, ◌≡◌, ◌+◌, ◌-◌, ◌^◌, ◌<◌, [], ◌∷◌, ◌++◌, List, refl, subst, sym, ap, ◌∙◌, arith, length, length-append, append_assoc, append-nil}
+use Rattle.std.proofs.Common.{inl, inr, ◌⊎◌, ◌||◌, ◌==◌, ℕ, Bool, true, false, MatchBool, ◌≡◌, ◌+◌, ◌-◌, ◌^◌, ◌<◌, [], ◌∷◌, ◌++◌, List, map, refl, subst, sym, ap, ◌∙◌, arith, length, length-append, append_assoc, append-nil}
+use Rattle.std.proofs.lemmas.List.{map-append}
 use Rattle.std.proofs.lemmas.Bool.Decides.{nat_tests}
 use Rattle.std.specs.Prelude.{nat_le}
 use Rattle.sled_base.specs.declared.types.Error.TheVariants.{Unsupported, OutOfMemory}
@@ -11,9 +12,11 @@ use Rattle.sled_pagecache.specs.Rows.{AreMade, IsMade}
 use Rattle.sled_pagecache.specs.Trees.{MadeCalls}
 use Rattle.sled_pagecache.specs.declared.pagecache.handles.call.Answer.{Answer}
 use Rattle.sled_pagecache.specs.declared.pagecache.handles.call.Call.{Call}
+use Rattle.sled_shared.proofs.HistorySteps.{counts_one}
 use Rattle.sled_shared.specs.Book.{book, AreEntries}
 use Rattle.sled_shared.specs.Calls.{Answered, Asked, Entry, IsEntry, IsRefusal, Reply, Request, entry}
-use Rattle.sled_shared.specs.Held.{Held, held, IsSound, IsBookOf, with_entry, calls_of, is_full, IsEntered, IsLeftOut, Serves, Counts}
+use Rattle.sled_shared.specs.History.{written_by}
+use Rattle.sled_shared.specs.Held.{Held, held, IsSound, IsBookOf, with_entry, calls_of, is_full, IsEntered, IsLeftOut, Serves, Share, HasTold, IsKept, Told, Tells, count_of}
 
 or-second : (a b : Bool) → (a || b) ≡ false → b ≡ false
 or-second true b h = absurd cc
@@ -33,6 +36,49 @@ entries-more : (entries : List Entry) (calls : MadeCalls) (call : Request) (answ
 entries-more [] calls call answer more none is = subst (λ (l : MadeCalls). AreEntries (entry call answer ∷ []) (l ++ more)) (sym none) (more, [], is, sym (append-nil more), refl)
 entries-more (e ∷ entries) calls call answer more (first, rest, here, are, others) is =
     (first, rest ++ more, here, ap (λ (l : MadeCalls). l ++ more) are ∙ append_assoc first rest more, entries-more entries rest call answer more others is)
+
+-- the history goes on by the same entry
+pub kept_on : {known name name' : ℕ} {log log' : List Told} {earlier : ℕ} {entries before entries' : List Entry} (number : ℕ) (e : Entry) → IsKept known name log earlier entries
+    → entries' ≡ before ++ e ∷ [] → before ≡ entries → name' ≡ name → log' ≡ log ++ (number, e) ∷ [] → IsKept known name' log' earlier entries'
+kept_on {log = log} {entries = entries} {before = old} number e kept more same again line =
+    let f : Told → Entry = λ line. line.1 in
+    let of = kept.of in
+    let here = ap (map f) line ∙ map-append f log ((number, e) ∷ []) in
+    record {
+      named = again ∙ kept.named;
+      of = record {
+        before = of.before;
+        many = of.many;
+        all = here ∙ (ap (λ (l : List Entry). l ++ e ∷ []) of.all ∙ (append_assoc of.before entries (e ∷ []) ∙ ap (λ (l : List Entry). of.before ++ l) (ap (λ (l : List Entry). l ++ e ∷ []) (sym same) ∙ sym more)));
+      };
+    }
+
+-- before the first round
+pub kept_first : {known name : ℕ} {log : List Told} {entries : List Entry} → name ≡ known → log ≡ [] → entries ≡ [] → IsKept known name log 0 entries
+kept_first named log none = record { named = named; of = record { before = []; many = refl; all = ap (map (λ (line : Told). line.1)) log ∙ sym none } }
+
+-- in a new round
+pub kept_anew : {known name : ℕ} {log : List Told} {earlier earlier' : ℕ} {entries entries' : List Entry} → IsKept known name log earlier entries → earlier' ≡ earlier + length entries → entries' ≡ []
+    → IsKept known name log earlier' entries'
+kept_anew {entries = entries} kept later none =
+    let of = kept.of in
+    record {
+      named = kept.named;
+      of = record {
+        before = of.before ++ entries;
+        many = length-append of.before entries ∙ (ap (λ (n : ℕ). n + length entries) of.many ∙ sym later);
+        all = of.all ∙ (sym (append-nil (of.before ++ entries)) ∙ ap (λ (l : List Entry). (of.before ++ entries) ++ l) (sym none));
+      };
+    }
+
+-- what was told, as the call and its answer
+pub told_as : (mine mine' : Share) {e : Entry} {call : Request} {answer : Reply} → HasTold mine e mine' → e ≡ entry call answer → HasTold mine (entry call answer) mine'
+told_as mine mine' told kept = subst (λ (x : Entry). HasTold mine x mine') kept told
+
+-- a share that was told of a call counts one more
+pub tells_counts : (mine : Share) (call : Request) (answer : Reply) (mine' : Share) → Tells mine call answer mine' → (count_of mine' ≡ count_of mine + 1) ⊎ ((mine' ≡ mine) × (IsRefusal answer (Unsupported BookFull) ⊎ IsRefusal answer OutOfMemory))
+tells_counts mine call answer mine' (inl (same, told)) = inl (ap (λ (n : ℕ). length (written_by n mine'.seen)) same ∙ counts_one mine.number mine.seen (entry call answer) mine'.seen told)
+tells_counts mine call answer mine' (inr left) = inr left
 
 -- what was entered, as the call and its answer
 pub entered_as : {entries before old : List Entry} {e : Entry} {call : Request} {answer : Reply} → entries ≡ before ++ e ∷ [] → before ≡ old → e ≡ entry call answer → entries ≡ old ++ entry call answer ∷ []
@@ -86,34 +132,34 @@ module _ {L : Type 0} (g : Ghosts L) where
   by-room true B C is a = absurd cc
 
   -- where there is room, a call that was made is entered
-  pub serves_made : OnlyNow g → (old : Held L) (count : ℕ) (call : Request) (answer : Reply) (new : Held L) (count' : ℕ) (calls : MadeCalls)
+  pub serves_made : OnlyNow g → (old : Held L) (mine : Share) (call : Request) (answer : Reply) (new : Held L) (mine' : Share) (calls : MadeCalls)
       → is_full old ≡ false → IsEntry call answer calls → AreMade g old.cache calls new.cache
-      → new.book ≡ with_entry old.book call answer → count' ≡ count + 1 → (new.limit ≡ old.limit) × (new.given ≡ old.given) × (new.left ≡ old.left)
-      → Serves g old count call answer new count'
-  serves_made only_now old count call answer new count' calls room is made entered counted rest =
-      by-room (is_full old) (IsLeftOut g old count (IsRefusal answer OutOfMemory) new count') (IsLeftOut g old count (IsRefusal answer (Unsupported BookFull)) new count') room
-      (record { calls = calls; are = is; made = made; row = made-row g old.cache new.cache calls only_now made; entered = entered; counted = counted; rest = rest })
+      → new.book ≡ with_entry old.book call answer → HasTold mine (entry call answer) mine' → (new.limit ≡ old.limit) × (new.given ≡ old.given) × (new.left ≡ old.left)
+      → Serves g old mine call answer new mine'
+  serves_made only_now old mine call answer new mine' calls room is made entered told rest =
+      by-room (is_full old) (IsLeftOut g old mine (IsRefusal answer OutOfMemory) new mine') (IsLeftOut g old mine (IsRefusal answer (Unsupported BookFull)) new mine') room
+      (record { calls = calls; are = is; made = made; row = made-row g old.cache new.cache calls only_now made; entered = entered; told = told; rest = rest })
 
-  pub served : OnlyNow g → (old : Held L) (count : ℕ) (call : Request) (answer : Reply) (cache : Cache L) (entries : List Entry) (count' : ℕ) (calls : MadeCalls)
-      → is_full old ≡ false → IsEntry call answer calls → AreMade g old.cache calls cache → entries ≡ old.book.entries ++ entry call answer ∷ [] → count' ≡ count + 1
-      → Serves g old count call answer (held cache (book old.book.earlier old.book.opening entries) old.limit old.given old.left) count'
-  served only_now old count call answer cache entries count' calls room is made entered counted =
-      serves_made only_now old count call answer (held cache (book old.book.earlier old.book.opening entries) old.limit old.given old.left) count' calls room is made (ap (book old.book.earlier old.book.opening) entered) counted (refl, refl, refl)
+  pub served : OnlyNow g → (old : Held L) (mine : Share) (call : Request) (answer : Reply) (cache : Cache L) (entries : List Entry) (mine' : Share) (calls : MadeCalls)
+      → is_full old ≡ false → IsEntry call answer calls → AreMade g old.cache calls cache → entries ≡ old.book.entries ++ entry call answer ∷ [] → HasTold mine (entry call answer) mine'
+      → Serves g old mine call answer (held cache (book old.book.earlier old.book.opening entries) old.limit old.given old.left) mine'
+  served only_now old mine call answer cache entries mine' calls room is made entered told =
+      serves_made only_now old mine call answer (held cache (book old.book.earlier old.book.opening entries) old.limit old.given old.left) mine' calls room is made (ap (book old.book.earlier old.book.opening) entered) told (refl, refl, refl)
 
-  pub one_served : OnlyNow g → (old : Held L) (count : ℕ) (asked : Call) (answer : Answer) (cache : Cache L) (entries : List Entry) (count' : ℕ)
-      → is_full old ≡ false → IsMade g old.cache asked answer cache → entries ≡ old.book.entries ++ entry (Asked asked) (Answered answer) ∷ [] → count' ≡ count + 1
-      → Serves g old count (Asked asked) (Answered answer) (held cache (book old.book.earlier old.book.opening entries) old.limit old.given old.left) count'
-  one_served only_now old count asked answer cache entries count' room made =
-      served only_now old count (Asked asked) (Answered answer) cache entries count' ((asked, answer) ∷ []) room refl (one_made old.cache cache asked answer made)
+  pub one_served : OnlyNow g → (old : Held L) (mine : Share) (asked : Call) (answer : Answer) (cache : Cache L) (entries : List Entry) (mine' : Share)
+      → is_full old ≡ false → IsMade g old.cache asked answer cache → entries ≡ old.book.entries ++ entry (Asked asked) (Answered answer) ∷ [] → HasTold mine (entry (Asked asked) (Answered answer)) mine'
+      → Serves g old mine (Asked asked) (Answered answer) (held cache (book old.book.earlier old.book.opening entries) old.limit old.given old.left) mine'
+  one_served only_now old mine asked answer cache entries mine' room made =
+      served only_now old mine (Asked asked) (Answered answer) cache entries mine' ((asked, answer) ∷ []) room refl (one_made old.cache cache asked answer made)
 
   -- ---- what a caller of the shared one is told
 
-  counts_of : (full : Bool) (count count' : ℕ) (old new : Held L) (call : Request) (answer : Reply)
-      → MatchBool full (IsLeftOut g old count (IsRefusal answer (Unsupported BookFull)) new count') (IsEntered g old count call answer new count' ⊎ IsLeftOut g old count (IsRefusal answer OutOfMemory) new count') → Counts count answer count'
-  counts_of true count count' old new call answer h = inr (h.1, inl h.2)
-  counts_of false count count' old new call answer (inl h) = inl h.counted
-  counts_of false count count' old new call answer (inr h) = inr (h.1, inr h.2)
+  tells_of : (full : Bool) (mine mine' : Share) (old new : Held L) (call : Request) (answer : Reply)
+      → MatchBool full (IsLeftOut g old mine (IsRefusal answer (Unsupported BookFull)) new mine') (IsEntered g old mine call answer new mine' ⊎ IsLeftOut g old mine (IsRefusal answer OutOfMemory) new mine') → Tells mine call answer mine'
+  tells_of true mine mine' old new call answer h = inr (h.1, inl h.2)
+  tells_of false mine mine' old new call answer (inl h) = inl h.told
+  tells_of false mine mine' old new call answer (inr h) = inr (h.1, inr h.2)
 
-  pub serves_counts : (old : Held L) (count : ℕ) (call : Request) (answer : Reply) (new : Held L) (count' : ℕ)
-      → Serves g old count call answer new count' → Counts count answer count'
-  serves_counts old count call answer new count' h = counts_of (is_full old) count count' old new call answer h
+  pub serves_tells : (old : Held L) (mine : Share) (call : Request) (answer : Reply) (new : Held L) (mine' : Share)
+      → Serves g old mine call answer new mine' → Tells mine call answer mine'
+  serves_tells old mine call answer new mine' h = tells_of (is_full old) mine mine' old new call answer h

@@ -1,5 +1,5 @@
 -- A page cache with the book of its calls, and what a call does to them.
-use Rattle.std.specs.Prelude.{◌≡◌, ◌==◌, ℕ, ◌+◌, ◌-◌, ◌^◌, ◌<◌, ◌∷◌, [], ◌++◌, ◌||◌, ◌⊎◌, Bool, false, MatchBool, length, nat_le}
+use Rattle.std.specs.Prelude.{◌≡◌, ◌==◌, ℕ, ◌+◌, ◌-◌, ◌^◌, ◌<◌, ◌∷◌, [], ◌++◌, ◌||◌, ◌⊎◌, Bool, false, List, All, MatchBool, length, map, nat_le}
 use Rattle.sled_base.specs.declared.types.Error.TheVariants.{Unsupported, OutOfMemory}
 use Rattle.sled_base.specs.declared.types.Why.TheVariants.{BookFull}
 use Rattle.sled_log.specs.declared.log.Log.{Ghosts}
@@ -10,7 +10,8 @@ use Rattle.sled_pagecache.specs.Shapes.{Shows}
 use Rattle.sled_pagecache.specs.State.{State}
 use Rattle.sled_pagecache.specs.Trees.{IsKnown, MadeCalls}
 use Rattle.sled_shared.specs.Book.{Book, book, AreEntries, IsShapeOf, ReplaysTo}
-use Rattle.sled_shared.specs.Calls.{IsEntry, IsRefusal, Reply, Request, entry}
+use Rattle.sled_shared.specs.Calls.{Entry, IsEntry, IsRefusal, Reply, Request, entry}
+use Rattle.sled_shared.specs.History.{HasAll, Line, Writes, written_by}
 
 -- what a contract sees of the locked value: the cache, the book, its limit, the shares given out and those left
 pub record Held (L : Type 0) : Type 0 where
@@ -22,6 +23,51 @@ pub record Held (L : Type 0) : Type 0 where
 
 abbrev pub held : {L : Type 0} → Cache L → Book → ℕ → ℕ → ℕ → Held L
 held cache b limit given left = record { cache = cache; book = b; limit = limit; given = given; left = left }
+
+-- an entry of the history, and the number of the share that made the call
+abbrev pub Told : Type 0
+Told = Line Entry
+
+-- What a contract sees of a share: its number, and what it has seen of the one history of all shares.
+pub record Share : Type 0 where
+  pub number : ℕ
+  pub seen : List Told
+
+abbrev pub share : ℕ → List Told → Share
+share number seen = record { number = number; seen = seen }
+
+-- What a contract sees of a ledger and a history that no cache has yet: the ledger's name and parts, and the history's name.
+pub record Blank : Type 0 where
+  pub name : ℕ
+  pub parts : ℕ
+  pub history : ℕ
+
+abbrev pub blank : ℕ → ℕ → ℕ → Blank
+blank name parts history = record { name = name; parts = parts; history = history }
+
+-- how many calls of the share were entered
+abbrev pub count_of : Share → ℕ
+count_of s = length (written_by s.number s.seen)
+
+-- The call was entered for the share with this answer: it is the last that the share has seen, behind all that it had seen and what others
+-- did meanwhile, and the share's one call more.
+abbrev pub HasTold : Share → Entry → Share → Type 0
+HasTold s e t = (t.number ≡ s.number) × Writes s.number s.seen e t.seen
+
+-- The history has the entries of the earlier books, and then these.
+pub record IsHistoryOf (log : List Told) (earlier : ℕ) (entries : List Entry) : Type 0 where
+  pub before : List Entry
+  pub many : length before ≡ earlier
+  pub all : map (λ line. line.1) log ≡ before ++ entries
+
+-- It is kept under the name that its shares know.
+pub record IsKept (known name : ℕ) (log : List Told) (earlier : ℕ) (entries : List Entry) : Type 0 where
+  pub named : name ≡ known
+  pub of : IsHistoryOf log earlier entries
+
+-- There is one history that ends with the book's entries, of which each of the shares has seen a beginning, with all calls that it made.
+abbrev pub AreOfBook : List Share → Book → Type 0
+AreOfBook shares b = (log : List Told) × IsHistoryOf log b.earlier b.entries × All (λ s. HasAll s.number s.seen log) shares
 
 -- how many calls were entered since the opening
 abbrev pub calls_of : Book → ℕ
@@ -69,25 +115,25 @@ with_entry b call answer = book b.earlier b.opening (b.entries ++ entry call ans
 module _ {L : Type 0} (g : Ghosts L) where
   -- The call is one entry of the book, and counts in the caller's share. It is calls of the cache, made one after another: steps, in
   -- whatever state the cache is, and a crash at any moment of them leaves a prefix of what they write. Nothing else changes.
-  pub record IsEntered (old : Held L) (count : ℕ) (call : Request) (answer : Reply) (new : Held L) (count' : ℕ) : Type 0 where
+  pub record IsEntered (old : Held L) (mine : Share) (call : Request) (answer : Reply) (new : Held L) (mine' : Share) : Type 0 where
     pub calls : MadeCalls
     pub are : IsEntry call answer calls
     pub made : AreMade g old.cache calls new.cache
     pub row : StepInRow g old.cache calls new.cache
     pub entered : new.book ≡ with_entry old.book call answer
-    pub counted : count' ≡ count + 1
+    pub told : HasTold mine (entry call answer) mine'
     pub rest : (new.limit ≡ old.limit) × (new.given ≡ old.given) × (new.left ≡ old.left)
 
   -- The call isn't asked: nothing changes, and it is refused.
-  abbrev pub IsLeftOut : Held L → ℕ → Type 0 → Held L → ℕ → Type 0
-  IsLeftOut old count refused new count' = (new ≡ old) × (count' ≡ count) × refused
+  abbrev pub IsLeftOut : Held L → Share → Type 0 → Held L → Share → Type 0
+  IsLeftOut old mine refused new mine' = (new ≡ old) × (mine' ≡ mine) × refused
 
   -- Where the book is full, the call is left out. Else it is entered, unless there is no memory for the entry.
-  abbrev pub Serves : Held L → ℕ → Request → Reply → Held L → ℕ → Type 0
-  Serves old count call answer new count' =
+  abbrev pub Serves : Held L → Share → Request → Reply → Held L → Share → Type 0
+  Serves old mine call answer new mine' =
       MatchBool (is_full old)
-      (IsLeftOut old count (IsRefusal answer (Unsupported BookFull)) new count')
-      (IsEntered old count call answer new count' ⊎ IsLeftOut old count (IsRefusal answer OutOfMemory) new count')
+      (IsLeftOut old mine (IsRefusal answer (Unsupported BookFull)) new mine')
+      (IsEntered old mine call answer new mine' ⊎ IsLeftOut old mine (IsRefusal answer OutOfMemory) new mine')
 
 -- A new round: the book opens with the cache's shape, behind the calls of the books before it.
 pub record IsNewRound {L : Type 0} (g : Ghosts L) (earlier : ℕ) (cache : Cache L) (b : Book) : Type 0 where
@@ -95,7 +141,7 @@ pub record IsNewRound {L : Type 0} (g : Ghosts L) (earlier : ℕ) (cache : Cache
   pub shows : Shows g cache b.opening
   pub none : b.entries ≡ []
 
--- What a caller of the shared cache knows of its call: its share counts one more. Only where the book was full, or
--- memory was wanting, it may count the same.
-abbrev pub Counts : ℕ → Reply → ℕ → Type 0
-Counts count answer count' = (count' ≡ count + 1) ⊎ ((count' ≡ count) × (IsRefusal answer (Unsupported BookFull) ⊎ IsRefusal answer OutOfMemory))
+-- What a caller of the shared cache knows of its call: it was entered for its share with the answer that came. Only where the book was full,
+-- or memory was wanting, it may have been left out.
+abbrev pub Tells : Share → Request → Reply → Share → Type 0
+Tells mine call answer mine' = HasTold mine (entry call answer) mine' ⊎ ((mine' ≡ mine) × (IsRefusal answer (Unsupported BookFull) ⊎ IsRefusal answer OutOfMemory))

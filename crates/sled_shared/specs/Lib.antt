@@ -1,3 +1,4 @@
+pub mod History
 pub mod Calls
 pub mod Kept
 pub mod Book

@@ -1,6 +1,7 @@
 //! A crew: one thread for each share, which draws ids.
 
 ghost use Rattle.std.specs.Prelude.{◌≡◌, ℕ, ◌+◌, ◌≤◌, ◌++◌, [], true, map, vec_len, vec_capacity, IfErr, IfNone, IfOk, IfSome, if◌then◌else◌};
+ghost use Rattle.sled_shared.specs.Held.{count_of};
 
 use crate::handle::SharedPageCache;
 use crate::share::{Share, Tally};
@@ -35,7 +36,7 @@ struct Raised {
 }
 
 impl<K: Tally> Promise<Report<K>> for Raised {
-    ghost kept_by = { λ p r. IfNone r.refusal (r.share ≡ p.from + p.by) };
+    ghost kept_by = { λ p r. IfNone r.refusal (count_of r.share ≡ p.from + p.by) };
 }
 
 // Makes the calls of one worker. It ends at the first refusal.
@@ -47,7 +48,7 @@ fn work<L: Log, K: Tally, G: Gate, R: Wait>(
     calls: u64,
     share: Share<K>,
 ) -> Report<K>
-    ensures { IfNone result.refusal (result.share ≡ share + calls) }
+    ensures { IfNone result.refusal (count_of result.share ≡ count_of share + calls) }
 {
     let mut share = share;
     for call in 0..calls {
@@ -81,7 +82,7 @@ fn start<
     calls: u64,
     share: Share<K>,
 ) -> Option<PromisedHandle<Report<K>, Raised>>
-    ensures { IfSome result (λ started. (started.promise.from ≡ share)
+    ensures { IfSome result (λ started. (started.promise.from ≡ count_of share)
         × (started.promise.by ≡ calls)) }
 {
     let shared = Arc::try_clone(shared).ok()?;
@@ -91,7 +92,7 @@ fn start<
         by: calls,
     };
     let job = move || -> Report<K>
-        ensures { IfNone result.refusal (result.share ≡ share + calls) }
+        ensures { IfNone result.refusal (count_of result.share ≡ count_of share + calls) }
     { work(&rt, &*shared, &*gate, worker, calls, share) };
     thread::spawn_with(&rt, promise, job).ok()
 }
@@ -139,7 +140,7 @@ fn start_all<
     requires room { (vec_len shares ≤ vec_capacity running.old)
         × (vec_len shares ≤ vec_capacity left.old) }
     ensures promised { result ≡ true → map (λ started. started.promise.from + started.promise.by)
-        running.new.items ≡ map (λ count. count + calls) shares.items }
+        running.new.items ≡ map (λ share. count_of share + calls) shares.items }
     ensures len { vec_len running.new + vec_len left.new + (if result then 0 else 1)
         ≡ vec_len shares }
 {
@@ -164,7 +165,7 @@ fn join_all<K: Tally, R: Threads>(
     back: &mut Vec<Share<K>>,
 ) -> Option<Error>
     requires { vec_len back.old + vec_len running ≤ vec_capacity back.old }
-    ensures raised { IfNone result (back.new.items ≡ back.old.items ++ map
+    ensures raised { IfNone result (map (λ share. count_of share) back.new.items ≡ map (λ share. count_of share) back.old.items ++ map
         (λ started. started.promise.from + started.promise.by) running.items) }
     ensures len { vec_len back.new ≡ vec_len back.old + vec_len running }
     ensures capacity { vec_capacity back.new ≡ vec_capacity back.old }
@@ -198,7 +199,7 @@ pub fn run_crew<
     calls: u64,
     gate: Arc<G>,
 ) -> Result<Vec<Share<K>>, (Error, Vec<Share<K>>)>
-    ensures raised { IfOk result (λ back. back.items ≡ map (λ count. count + calls) shares.items) }
+    ensures raised { IfOk result (λ back. map (λ share. count_of share) back.items ≡ map (λ share. count_of share + calls) shares.items) }
     ensures lost { IfErr result (λ e. vec_len shares ≤ vec_len e.1 + 1) }
 {
     let Ok(room) = make_room(alloc, shares.len()) else {

@@ -1,32 +1,34 @@
 //! The cache that threads share: the held cache under the one lock.
 
-ghost use Rattle.std.specs.Prelude.{◌≡◌, ℕ, ◌<◌, false, IfOk, IfErr, IfSome, sum};
+ghost use Rattle.std.specs.Prelude.{◌≡◌, ℕ, ◌<◌, false, IfOk, IfErr, IfSome, sum_by};
 ghost use Rattle.sled_base.specs.declared.types.Error.TheVariants.{OutOfMemory};
 ghost use Rattle.sled_pagecache.specs.State.{pid_of};
 ghost use Rattle.sled_pagecache.specs.Trees.{IsKnown};
 ghost use Rattle.sled_shared.specs.Book.{IsLegal};
 ghost use Rattle.sled_pagecache.specs.declared.pagecache.handles.call.Answer.TheVariants.{Allocated, Got, Linked, Replaced, Freed, FoundRoot, RootSwapped, Generated, Flushed};
-ghost use Rattle.sled_shared.specs.Calls.{Answered, Batched, Opened, batched};
-ghost use Rattle.sled_shared.specs.Held.{Counts, IsBookOf, ReplaysIn, calls_of};
+ghost use Rattle.sled_pagecache.specs.declared.pagecache.handles.call.Call.TheVariants.{Allocate, Get, GenerateId, Flush, MetaPidForName, CasRoot};
+ghost use Rattle.sled_pagecache.specs.declared.pagecache.handles.call.Call.TheVariants as call;
+ghost use Rattle.sled_shared.specs.Calls.{Answered, Asked, Batch, Batched, OpenTree, Opened, batched};
+ghost use Rattle.sled_shared.specs.Held.{AreOfBook, IsBookOf, ReplaysIn, Tells, calls_of, count_of};
 
 use crate::book::Book;
 use crate::calls::{Swap, SwapAnswer};
 use crate::held::Held;
-use crate::share::{Share, Tally};
+use crate::share::{Blank, Share, Tally};
 use sled_base::{Error, IVec, PageId};
 use sled_log::Log;
 use sled_node::{Link, Node};
 use sled_pagecache::{PageCache, PageView};
 use std::alloc::Global;
 use std::marker::Model;
-use std::sync::ledger::Blank;
 use std::sync::{Mutex, Wait};
 
 /// A page cache for many threads: a [`Held`] under a lock.
 ///
 /// A call that takes a share is the call of [`Held`] of the same name, made while the lock is taken, so it may wait for other threads; which
 /// comes first isn't said, nor how long a call waits. `BookFull` comes where the book is at its limit, `OutOfMemory` also where there is no
-/// room for the entry: these two may leave all as it was, and each other answer is entered, and counts once in the share.
+/// room for the entry: these two may leave all as it was, and each other answer is entered, and counts once in the share. What was entered stands in one history
+/// of all calls, which exists in the proofs alone: with the answer that came, behind all that the share had seen, and once.
 ///
 /// Contracts see whether the cache was recovered, and nothing else, since what lies under the lock may change at any time.
 #[derive(Drop)]
@@ -54,7 +56,7 @@ impl<L: Log, K: Tally> SharedPageCache<L, K> {
         parts: u64,
         blank: Blank,
     ) -> Result<SharedPageCache<L, K>, (Error, PageCache<L>)>
-        requires name { blank.name ≡ K.name }
+        requires name { (blank.name ≡ K.name) × (blank.history ≡ K.history) }
         requires parts { (blank.parts ≡ parts) × (K.parts ≡ parts) × (0 < parts) }
         requires closed { cache.batch ≡ false }
         requires known { K.known → L.tells → IsKnown L.Log cache }
@@ -77,7 +79,7 @@ impl<L: Log, K: Tally> SharedPageCache<L, K> {
 
     /// A share for one thread more, or none where all were given out. It may wait.
     pub fn share<R: Wait>(&self, rt: &R) -> Option<Share<K>>
-        ensures { IfSome result (λ s. s ≡ 0) }
+        ensures { IfSome result (λ s. count_of s ≡ 0) }
     {
         self.held.lock(rt).share()
     }
@@ -90,33 +92,33 @@ impl<L: Log, K: Tally> SharedPageCache<L, K> {
     }
 
     /// Puts a node on a page.
-    #[tactic(auto, using(crate::proofs::Replays::serves_counts))]
+    #[tactic(auto, using(crate::proofs::Replays::serves_tells))]
     pub fn allocate<R: Wait>(
         &self,
         rt: &R,
         node: Node,
         mine: &mut Share<K>,
     ) -> Result<(PageId, PageView), Error>
-        ensures { Counts mine.old (Answered (Allocated result)) mine.new }
+        ensures told { Tells mine.old (Asked (Allocate node)) (Answered (Allocated result)) mine.new }
     {
         self.held.lock(rt).allocate(node, mine)
     }
 
     /// A page's token and a copy of its node.
-    #[tactic(auto, using(crate::proofs::Replays::serves_counts))]
+    #[tactic(auto, using(crate::proofs::Replays::serves_tells))]
     pub fn get<R: Wait>(
         &self,
         rt: &R,
         pid: PageId,
         mine: &mut Share<K>,
     ) -> Result<Option<(PageView, Node)>, Error>
-        ensures { Counts mine.old (Answered (Got result)) mine.new }
+        ensures told { Tells mine.old (Asked (Get pid)) (Answered (Got result)) mine.new }
     {
         self.held.lock(rt).get(pid, mine)
     }
 
     /// Applies a link to the node of a page that is still at that stamp. Otherwise the link comes back, with the page's token.
-    #[tactic(auto, using(crate::proofs::Replays::serves_counts))]
+    #[tactic(auto, using(crate::proofs::Replays::serves_tells))]
     pub fn link<R: Wait>(
         &self,
         rt: &R,
@@ -126,13 +128,13 @@ impl<L: Log, K: Tally> SharedPageCache<L, K> {
         mine: &mut Share<K>,
     ) -> Result<Result<PageView, Option<(PageView, Link)>>, Error>
         requires { pid_of old ≡ pid }
-        ensures { Counts mine.old (Answered (Linked result)) mine.new }
+        ensures told { Tells mine.old (Asked (call.Link old link)) (Answered (Linked result)) mine.new }
     {
         self.held.lock(rt).link(pid, old, link, mine)
     }
 
     /// Puts a node on a page that is still at that stamp. Otherwise the node comes back, with the page's token.
-    #[tactic(auto, using(crate::proofs::Replays::serves_counts))]
+    #[tactic(auto, using(crate::proofs::Replays::serves_tells))]
     pub fn replace<R: Wait>(
         &self,
         rt: &R,
@@ -142,13 +144,13 @@ impl<L: Log, K: Tally> SharedPageCache<L, K> {
         mine: &mut Share<K>,
     ) -> Result<Result<PageView, Option<(PageView, Node)>>, Error>
         requires { pid_of old ≡ pid }
-        ensures { Counts mine.old (Answered (Replaced result)) mine.new }
+        ensures told { Tells mine.old (Asked (call.Replace old node)) (Answered (Replaced result)) mine.new }
     {
         self.held.lock(rt).replace(pid, old, node, mine)
     }
 
     /// Frees a page that is still at that stamp. Otherwise the page's token comes back.
-    #[tactic(auto, using(crate::proofs::Replays::serves_counts))]
+    #[tactic(auto, using(crate::proofs::Replays::serves_tells))]
     pub fn free<R: Wait>(
         &self,
         rt: &R,
@@ -157,29 +159,29 @@ impl<L: Log, K: Tally> SharedPageCache<L, K> {
         mine: &mut Share<K>,
     ) -> Result<Result<PageView, Option<(PageView, ())>>, Error>
         requires { pid_of old ≡ pid }
-        ensures { Counts mine.old (Answered (Freed result)) mine.new }
+        ensures told { Tells mine.old (Asked (call.Free old)) (Answered (Freed result)) mine.new }
     {
         self.held.lock(rt).free(pid, old, mine)
     }
 
     /// The next id.
-    #[tactic(auto, using(crate::proofs::Replays::serves_counts))]
+    #[tactic(auto, using(crate::proofs::Replays::serves_tells))]
     pub fn generate_id<R: Wait>(&self, rt: &R, mine: &mut Share<K>) -> Result<u64, Error>
-        ensures { Counts mine.old (Answered (Generated result)) mine.new }
+        ensures told { Tells mine.old (Asked GenerateId) (Answered (Generated result)) mine.new }
     {
         self.held.lock(rt).generate_id(mine)
     }
 
     /// Makes all that is pending stable, and answers how many bytes that wrote.
-    #[tactic(auto, using(crate::proofs::Replays::serves_counts))]
+    #[tactic(auto, using(crate::proofs::Replays::serves_tells))]
     pub fn flush<R: Wait>(&self, rt: &R, mine: &mut Share<K>) -> Result<usize, Error>
-        ensures { Counts mine.old (Answered (Flushed result)) mine.new }
+        ensures told { Tells mine.old (Asked Flush) (Answered (Flushed result)) mine.new }
     {
         self.held.lock(rt).flush(mine)
     }
 
     /// Gives a name another root, or takes the name out, if its root is still the old one. Otherwise the root comes back.
-    #[tactic(auto, using(crate::proofs::Replays::serves_counts))]
+    #[tactic(auto, using(crate::proofs::Replays::serves_tells))]
     pub fn cas_root_in_meta<R: Wait>(
         &self,
         rt: &R,
@@ -188,47 +190,47 @@ impl<L: Log, K: Tally> SharedPageCache<L, K> {
         new: Option<PageId>,
         mine: &mut Share<K>,
     ) -> Result<Result<(), Option<PageId>>, Error>
-        ensures { Counts mine.old (Answered (RootSwapped result)) mine.new }
+        ensures told { Tells mine.old (Asked (CasRoot name.now old new)) (Answered (RootSwapped result)) mine.new }
     {
         self.held.lock(rt).cas_root_in_meta(name, old, new, mine)
     }
 
     /// The root page of a name. `CollectionNotFound`, with the name, comes where it has none.
-    #[tactic(auto, using(crate::proofs::Replays::serves_counts))]
+    #[tactic(auto, using(crate::proofs::Replays::serves_tells))]
     pub fn meta_pid_for_name<R: Wait>(
         &self,
         rt: &R,
         name: &[u8],
         mine: &mut Share<K>,
     ) -> Result<PageId, Error>
-        ensures { Counts mine.old (Answered (FoundRoot result)) mine.new }
+        ensures told { Tells mine.old (Asked (MetaPidForName name.now)) (Answered (FoundRoot result)) mine.new }
     {
         self.held.lock(rt).meta_pid_for_name(name, mine)
     }
 
     /// The root page of the tree of this name. A name that has no root is given one.
-    #[tactic(auto, using(crate::proofs::Replays::serves_counts))]
+    #[tactic(auto, using(crate::proofs::Replays::serves_tells))]
     pub fn open_tree<R: Wait>(
         &self,
         rt: &R,
         name: IVec,
         mine: &mut Share<K>,
     ) -> Result<PageId, Error>
-        ensures { Counts mine.old (Opened result) mine.new }
+        ensures told { Tells mine.old (OpenTree name) (Opened result) mine.new }
     {
         self.held.lock(rt).open_tree(name, mine)
     }
 
     /// Makes swaps in a batch: a crash leaves all of them or nothing. A stale swap is answered, and is no hindrance. Where one is refused
     /// the batch is cancelled, and the refusal comes with the answers before it, of which a crash may leave a part.
-    #[tactic(auto, using(crate::proofs::Replays::serves_counts))]
+    #[tactic(auto, using(crate::proofs::Replays::serves_tells))]
     pub fn batch<R: Wait>(
         &self,
         rt: &R,
         swaps: Vec<Swap>,
         mine: &mut Share<K>,
     ) -> Result<Vec<SwapAnswer>, (Error, Vec<SwapAnswer>)>
-        ensures { Counts mine.old (Batched (batched result)) mine.new }
+        ensures told { Tells mine.old (Batch swaps.items) (Batched (batched result)) mine.new }
     {
         self.held.lock(rt).batch(swaps, mine)
     }
@@ -251,7 +253,8 @@ impl<L: Log, K: Tally> SharedPageCache<L, K> {
         ensures of { IfOk result (λ r. IsBookOf L.Log K.known r.1 r.0) }
         ensures legal { K.known → L.tells → IfOk result (λ r. ReplaysIn L.Log r.1 r.0) }
         ensures closed { IfOk result (λ r. r.0.batch ≡ false) }
-        ensures total { IfOk result (λ r. (r.2 ≡ calls_of r.1) × (r.2 ≡ sum shares.items)) }
+        ensures total { IfOk result (λ r. (r.2 ≡ calls_of r.1) × (r.2 ≡ sum_by count_of shares.items)) }
+        ensures history { IfOk result (λ r. AreOfBook shares.items r.1) }
         ensures err { IfErr result (λ back. (back.0 ≡ self) × (back.1 ≡ shares)) }
     {
         let SharedPageCache { recovered, held } = self;

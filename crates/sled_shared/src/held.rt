@@ -1,6 +1,8 @@
 //! The value under the lock: the cache, with the book of its calls.
 
-ghost use Rattle.std.specs.Prelude.{◌≡◌, ◌+◌, ◌-◌, ◌<◌, true, false, length, IfOk, IfErr, IfSome, IfNone, IsOk, ◌↔◌, sum};
+ghost use Rattle.std.specs.Prelude.{◌≡◌, ◌+◌, ◌-◌, ◌<◌, true, false, length, IfOk, IfErr, IfSome, IfNone, IsOk, ◌↔◌, All, sum_by};
+ghost use Rattle.sled_shared.specs.History.{HasAll};
+ghost use Rattle.sled_shared.specs.Held.{count_of};
 ghost use Rattle.sled_base.specs.declared.types.Error.TheVariants.{OutOfMemory};
 ghost use Rattle.sled_pagecache.specs.Trees.{IsKnown};
 
@@ -9,8 +11,9 @@ mod entering;
 
 use crate::book::Book;
 use crate::entry::Entry;
+use crate::history::History;
 use crate::keeping::Spare;
-use crate::share::{Share, Tally};
+use crate::share::{Blank, Share, Tally};
 use sled_base::Error;
 use sled_log::Log;
 use sled_pagecache::{PageCache, Shape};
@@ -34,24 +37,25 @@ pub struct Held<L: Log, K: Tally> {
     limit: usize,
     total: ledger::Book<K>,
     rest: ledger::Share<K>,
+    history: History<Entry>,
     given: u64,
     left: u64,
 }
 
 impl<L: Log, K: Tally> Model for Held<L, K> {
     ghost use Rattle.sled_shared.specs.Book.{book};
-    ghost use Rattle.sled_shared.specs.Held.{Held as Seen, held, IsSound};
+    ghost use Rattle.sled_shared.specs.Held.{Held as Seen, held, IsKept, IsSound};
 
     ghost Value = { Seen L };
 
     ghost view = { λ h. held h.cache (book h.earlier h.opening h.entries.items) h.limit h.given h.left };
 
-    ghost invariant = { λ h. IsSound L.Log K.known (held h.cache (book h.earlier h.opening h.entries.items) h.limit h.given h.left) h.total.total h.rest.parts h.rest.amount K.parts };
+    ghost invariant = { λ h. IsSound L.Log K.known (held h.cache (book h.earlier h.opening h.entries.items) h.limit h.given h.left) h.total.total h.rest.parts h.rest.amount K.parts × IsKept K.history h.history.name h.history.log h.earlier h.entries.items };
 }
 
 impl<L: Log, K: Tally> Held<L, K> {
     ghost use Rattle.sled_shared.specs.Book.{RisesWithin, ids_of};
-    ghost use Rattle.sled_shared.specs.Held.{EndsBefore, IsBookOf, IsNewRound, ReplaysIn, calls_of, held};
+    ghost use Rattle.sled_shared.specs.Held.{AreOfBook, EndsBefore, IsBookOf, IsNewRound, ReplaysIn, calls_of, held};
 
     /// Opens the first round over a cache, of which no batch is open. A book has at most `limit` entries. The ledger's parts are the shares
     /// that there will be, and one more.
@@ -62,9 +66,9 @@ impl<L: Log, K: Tally> Held<L, K> {
         cache: PageCache<L>,
         limit: usize,
         parts: u64,
-        blank: ledger::Blank,
+        blank: Blank,
     ) -> Result<Held<L, K>, (Error, PageCache<L>)>
-        requires name { blank.name ≡ K.name }
+        requires name { (blank.name ≡ K.name) × (blank.history ≡ K.history) }
         requires parts { (blank.parts ≡ parts) × (K.parts ≡ parts) × (0 < parts) }
         requires closed { cache.batch ≡ false }
         requires known { K.known → L.tells → IsKnown L.Log cache }
@@ -75,7 +79,8 @@ impl<L: Log, K: Tally> Held<L, K> {
         let Ok(opening) = cache.shape() else {
             return Err((Error::OutOfMemory, cache));
         };
-        let (total, rest) = blank.open::<K>();
+        let Blank { ledger, history } = blank;
+        let (total, rest) = ledger.open::<K>();
         Ok(Held {
             alloc,
             cache,
@@ -86,6 +91,7 @@ impl<L: Log, K: Tally> Held<L, K> {
             limit,
             total,
             rest,
+            history,
             given: 0,
             left: parts,
         })
@@ -100,7 +106,7 @@ impl<L: Log, K: Tally> Held<L, K> {
 
     /// A share for one thread more, or none where all were given out: one part stays here.
     pub fn share(&mut self) -> Option<Share<K>>
-        ensures some { IfSome result (λ s. (s ≡ 0) × (1 < self.old.left) × (self.new ≡ held
+        ensures some { IfSome result (λ s. (count_of s ≡ 0) × (1 < self.old.left) × (self.new ≡ held
             self.old.cache self.old.book self.old.limit (self.old.given + 1) (self.old.left - 1))) }
         ensures none { IfNone result ((self.old.left ≡ 1) × (self.new ≡ self.old)) }
     {
@@ -110,7 +116,12 @@ impl<L: Log, K: Tally> Held<L, K> {
         let mark = self.rest.split_off(1, 0);
         self.left -= 1;
         self.given += 1;
-        Some(Share { mark, count: 0 })
+        let pen = self.history.pen();
+        Some(Share {
+            mark,
+            pen,
+            count: 0,
+        })
     }
 
     /// Ends a round, and answers its book. The next one begins with the shape in which this one closed, which alone takes memory. A kept write
@@ -145,7 +156,8 @@ impl<L: Log, K: Tally> Held<L, K> {
         ensures of { IfOk result (λ r. IsBookOf L.Log K.known r.1 r.0) }
         ensures legal { K.known → L.tells → IfOk result (λ r. ReplaysIn L.Log r.1 r.0) }
         ensures closed { IfOk result (λ r. r.0.batch ≡ false) }
-        ensures total { IfOk result (λ r. (r.2 ≡ calls_of self.book) × (r.2 ≡ sum shares.items)) }
+        ensures total { IfOk result (λ r. (r.2 ≡ calls_of self.book) × (r.2 ≡ sum_by count_of shares.items)) }
+        ensures history { IfOk result (λ r. AreOfBook shares.items r.1) }
         ensures err { IfErr result (λ back. (back.0 ≡ self) × (back.1 ≡ shares)) }
     {
         if shares.len() as u64 != self.given {
@@ -161,26 +173,40 @@ impl<L: Log, K: Tally> Held<L, K> {
             limit: _,
             total,
             rest,
+            history,
             given: _,
             left: _,
         } = self;
         let calls = earlier + entries.len() as u64;
-        count_up(total, rest, shares);
+        count_up(total, rest, history, shares);
         Ok((cache, Book::new(earlier, opening, entries), calls))
     }
 }
 
 // With every share back, the ledger's total is the sum of their counts.
-fn count_up<K: Tally>(total: ledger::Book<K>, rest: ledger::Share<K>, shares: Vec<Share<K>>)
+fn count_up<K: Tally>(
+    total: ledger::Book<K>,
+    rest: ledger::Share<K>,
+    history: History<Entry>,
+    shares: Vec<Share<K>>,
+)
     requires all { rest.parts + length shares.items ≡ K.parts }
     requires idle { rest.amount ≡ 0 }
-    ensures { total.total ≡ sum shares.items }
+    requires named { history.name ≡ K.history }
+    ensures total { total.total ≡ sum_by count_of shares.items }
+    ensures seen { All (λ s. HasAll s.number s.seen history.log) shares.items }
 {
     let mut total = total;
     let mut whole = rest;
+    let mut history = history;
     let mut left = shares;
     while let Some(share) = left.pop() {
-        let Share { mark, count: _ } = share;
+        let Share {
+            mark,
+            mut pen,
+            count: _,
+        } = share;
+        history.audit(&mut pen);
         whole.merge(mark);
     }
     total.audit(&mut whole);

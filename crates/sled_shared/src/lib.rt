@@ -3,7 +3,8 @@
 //! In reading order:
 //!
 //! - `calls`, `entry`, `book`: the swaps of a batch, what is entered of a call, and the book of a round
-//! - `share`: the shares of the threads, by which entered calls are counted
+//! - `history`: a history of entries that exists in the proofs alone
+//! - `share`: the shares of the threads, by which entered calls are counted and told
 //! - `held`: the cache with its book, and its calls
 //! - `handle`: the held cache under the one lock
 //! - `crew`: threads that draw ids
@@ -19,6 +20,7 @@ pub mod crew;
 pub mod entry;
 pub mod handle;
 pub mod held;
+mod history;
 mod keeping;
 pub mod law;
 pub mod share;
@@ -29,4 +31,4 @@ pub use crew::{Gate, run_crew};
 pub use entry::{Batch, Called, Ending, Entry, Kept, RootSwap};
 pub use handle::SharedPageCache;
 pub use held::Held;
-pub use share::{Share, Tally};
+pub use share::{Blank, Share, Tally};

@@ -1,42 +1,85 @@
-//! The shares of the threads, by which entered calls are counted.
+//! The shares of the threads, by which entered calls are counted, and told in one history.
 
-ghost use Rattle.std.specs.Prelude.{◌≡◌, ℕ, ⊤};
+ghost use Rattle.std.specs.Prelude.{◌≡◌, ℕ, ⊤, []};
 
+use crate::entry::Entry;
+use crate::history::{History, Pen};
 use std::marker::{Brand, Model};
 use std::sync::ledger;
 use std::sync::ledger::Ledger;
 
-/// The ledger of one shared cache. Callers pass `Brand`.
+/// The ledger and the history of one shared cache. Callers pass `Brand`.
 pub trait Tally: Ledger {
     /// That the caller knows in which state the cache is that is shared. Whoever doesn't may say so, and is told less of the books.
     ghost known: { Type 0 };
+
+    /// The name of the history.
+    ghost history: { ℕ };
 }
 
 impl Tally for Brand {
     ghost known = { ⊤ };
+
+    ghost history = { 0 };
 }
 
-/// The right of one thread to make calls. Contracts see it as the number of its calls that were entered.
+/// A new ledger and a new history, which no cache has yet. They take no bytes.
+#[derive(Drop)]
+pub struct Blank {
+    pub(crate) ledger: ledger::Blank,
+    pub(crate) history: History<Entry>,
+}
+
+impl Model for Blank {
+    ghost use Rattle.std.specs.Prelude.{◌≡◌, []};
+    ghost use Rattle.sled_shared.specs.Held.{Blank as Seen, blank};
+
+    ghost Value = { Seen };
+
+    ghost view = { λ b. blank b.ledger.name b.ledger.parts b.history.name };
+
+    ghost invariant = { λ b. b.history.log ≡ [] };
+}
+
+impl Blank {
+    /// For a cache whose ledger has so many parts: the shares that there will be, and one more.
+    pub fn new(parts: u64) -> Blank
+        ensures { result.parts ≡ parts }
+    {
+        Blank {
+            ledger: ledger::Blank::new(parts),
+            history: History::new(),
+        }
+    }
+}
+
+/// The right of one thread to make calls. Contracts see its number, and what it has seen of the history of all calls: those that it made are
+/// its own there.
 #[derive(Drop)]
 pub struct Share<K: Tally> {
     pub(crate) mark: ledger::Share<K>,
+    pub(crate) pen: Pen<Entry>,
     pub(crate) count: u64,
 }
 
 impl<K: Tally> Model for Share<K> {
-    ghost use Rattle.std.specs.Prelude.{◌≡◌, ℕ};
+    ghost use Rattle.std.specs.Prelude.{◌≡◌, length};
+    ghost use Rattle.sled_shared.specs.History.{written_by};
+    ghost use Rattle.sled_shared.specs.Held.{Share as Seen, share};
 
-    ghost Value = { ℕ };
+    ghost Value = { Seen };
 
-    ghost view = { λ s. s.count };
+    ghost view = { λ s. share s.pen.number s.pen.seen };
 
-    ghost invariant = { λ s. (s.mark.parts ≡ 1) × (s.mark.amount ≡ s.count) };
+    ghost invariant = { λ s. (s.mark.parts ≡ 1) × (s.mark.amount ≡ s.count) × (s.count ≡ length (written_by s.pen.number s.pen.seen)) × (s.pen.of ≡ K.history) };
 }
 
 impl<K: Tally> Share<K> {
+    ghost use Rattle.sled_shared.specs.Held.{count_of};
+
     /// The number of its calls that were entered.
     pub fn count(&self) -> u64
-        ensures { result ≡ self.now }
+        ensures { result ≡ count_of self.now }
     {
         self.count
     }

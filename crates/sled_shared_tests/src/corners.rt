@@ -5,10 +5,9 @@ ghost use Rattle.std.specs.Prelude.{◌≡◌, ◌<◌};
 use crate::asking::ask_in_a_row;
 use crate::crews::shared;
 use sled_pagecache::{IVec, Link, MemLog, Node, PageView};
-use sled_shared::{Share, SharedPageCache, Swap, Tally};
+use sled_shared::{Blank, Share, SharedPageCache, Swap, Tally};
 use std::alloc::{AllocError, Global};
 use std::sync::Wait;
-use std::sync::ledger::Blank;
 
 /// How many shares there are, and the totals of three closings: with none of them, with all but one, and with all, the last one first. A
 /// closing that hands the cache back has no total. Each share draws one id more than the one before it.
@@ -18,7 +17,7 @@ pub fn closings<K: Tally, R: Wait>(
     blank: Blank,
     parts: u64,
 ) -> Option<(usize, [Option<u64>; 3])>
-    requires name { blank.name ≡ K.name }
+    requires name { (blank.name ≡ K.name) × (blank.history ≡ K.history) }
     requires parts { (blank.parts ≡ parts) × (K.parts ≡ parts) × (0 < parts) }
 {
     let shared = shared::<K>(alloc, usize::MAX, parts, blank).ok()?;
@@ -70,7 +69,7 @@ pub fn without_room<K: Tally, R: Wait>(
     blank: Blank,
     parts: u64,
 ) -> Option<(Vec<String>, u64, usize)>
-    requires name { blank.name ≡ K.name }
+    requires name { (blank.name ≡ K.name) × (blank.history ≡ K.history) }
     requires parts { (blank.parts ≡ parts) × (K.parts ≡ parts) × (0 < parts) }
 {
     let shared = shared::<K>(alloc, 0, parts, blank).ok()?;
@@ -91,7 +90,7 @@ pub fn batches<K: Tally, R: Wait>(
     blank: Blank,
     parts: u64,
 ) -> Option<([(bool, usize); 3], u64)>
-    requires name { blank.name ≡ K.name }
+    requires name { (blank.name ≡ K.name) × (blank.history ≡ K.history) }
     requires parts { (blank.parts ≡ parts) × (K.parts ≡ parts) × (0 < parts) }
 {
     let shared = shared::<K>(alloc, 20, parts, blank).ok()?;

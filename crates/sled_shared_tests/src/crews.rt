@@ -6,10 +6,9 @@ ghost use Rattle.sled_pagecache.specs.Trees.{IsKnown};
 use crate::asking::ask;
 use crate::entered::texts_of;
 use sled_pagecache::{Config, Error, Log, MemLog, PageCache};
-use sled_shared::{Book, Entry, Gate, Share, SharedPageCache, Tally, run_crew};
+use sled_shared::{Blank, Book, Entry, Gate, Share, SharedPageCache, Tally, run_crew};
 use std::alloc::{AllocError, Global};
 use std::sync::atomic::{AtomicBool, Ordering};
-use std::sync::ledger::Blank;
 use std::sync::{Arc, Wait};
 use std::thread;
 use std::thread::{JoinHandle, Threads};
@@ -76,7 +75,7 @@ pub fn shared<K: Tally>(
     parts: u64,
     blank: Blank,
 ) -> Result<SharedPageCache<MemLog, K>, Error>
-    requires name { blank.name ≡ K.name }
+    requires name { (blank.name ≡ K.name) × (blank.history ≡ K.history) }
     requires parts { (blank.parts ≡ parts) × (K.parts ≡ parts) × (0 < parts) }
 {
     let cache = new_cache(alloc)?;
@@ -93,7 +92,7 @@ pub fn crew_of<K: Tally + Send + Sync + 'static, R: Threads + Wait + Copy + Send
     blank: Blank,
     parts: u64,
 ) -> Result<(u64, bool, bool), Error>
-    requires name { blank.name ≡ K.name }
+    requires name { (blank.name ≡ K.name) × (blank.history ≡ K.history) }
     requires parts { (blank.parts ≡ parts) × (K.parts ≡ parts) × (0 < parts) }
 {
     let shared = Arc::new(alloc, shared::<K>(alloc, usize::MAX, parts, blank)?)?;
@@ -172,7 +171,7 @@ pub fn asked_by_four<K: Tally + Send + Sync + 'static, R: Threads + Wait + Copy 
     blank: Blank,
     parts: u64,
 ) -> Result<Asked, Error>
-    requires name { blank.name ≡ K.name }
+    requires name { (blank.name ≡ K.name) × (blank.history ≡ K.history) }
     requires parts { (blank.parts ≡ parts) × (K.parts ≡ parts) × (0 < parts) }
 {
     let shared = Arc::new(alloc, shared::<K>(alloc, usize::MAX, parts, blank)?)?;

@@ -3,10 +3,9 @@
 ghost use Rattle.std.specs.Prelude.{◌≡◌, ◌<◌, false, IfOk};
 
 use sled_pagecache::{Config, Disk, DiskLog, Error, MemDisk, Node, PageCache, PageView};
-use sled_shared::{Book, Held, Share, Swap, Tally};
+use sled_shared::{Blank, Book, Held, Share, Swap, Tally};
 use std::alloc::{AllocError, Global};
 use std::fmt::Debug;
-use std::sync::ledger::Blank;
 
 type Disked = DiskLog<MemDisk>;
 
@@ -39,7 +38,7 @@ fn failing_cache(alloc: Global) -> Result<PageCache<Disked>, Error>
 
 /// What calls answer at a book of three whose second call meets a write error, and what the books are: texts, in their order.
 pub fn kept_error<K: Tally>(alloc: Global, blank: Blank, parts: u64) -> Option<Vec<String>>
-    requires name { blank.name ≡ K.name }
+    requires name { (blank.name ≡ K.name) × (blank.history ≡ K.history) }
     requires parts { (blank.parts ≡ parts) × (K.parts ≡ parts) × (0 < parts) }
     requires known { ¬ K.known }
 {
@@ -55,7 +54,7 @@ pub fn kept_error<K: Tally>(alloc: Global, blank: Blank, parts: u64) -> Option<V
 
 /// The same of a cache that met the write error before it was shared: what a page and a batch of one swap answer, and what the books are.
 pub fn kept_before<K: Tally>(alloc: Global, blank: Blank, parts: u64) -> Option<Vec<String>>
-    requires name { blank.name ≡ K.name }
+    requires name { (blank.name ≡ K.name) × (blank.history ≡ K.history) }
     requires parts { (blank.parts ≡ parts) × (K.parts ≡ parts) × (0 < parts) }
     requires known { ¬ K.known }
 {

@@ -8,9 +8,8 @@ use crate::faults::{CONFIG, add};
 use sled_pagecache::{
     DiskPtr, Error, Link, Log, LogError, MessageKind, Node, PageCache, PageId, PageState, PageView,
 };
-use sled_shared::{Held, Share, Swap, Tally};
+use sled_shared::{Blank, Held, Share, Swap, Tally};
 use std::alloc::{AllocError, Global};
-use std::sync::ledger::Blank;
 
 /// The message of each page, which is kept at the place of its id: no named roots, the counter 0, what is no node, and an empty leaf.
 const MESSAGES: &[(MessageKind, &[u8])] = &[
@@ -180,7 +179,7 @@ fn poor_cache(alloc: Global) -> Result<PageCache<PoorLog>, Error>
 /// A batch that replaces page 3 and then meets the damage of page 2, a page for which the log has no room, and a get of the damaged page:
 /// what each answers, and their entries.
 pub fn poor<K: Tally>(alloc: Global, blank: Blank, parts: u64) -> Option<Vec<String>>
-    requires name { blank.name ≡ K.name }
+    requires name { (blank.name ≡ K.name) × (blank.history ≡ K.history) }
     requires parts { (blank.parts ≡ parts) × (K.parts ≡ parts) × (0 < parts) }
     requires known { ¬ K.known }
 {

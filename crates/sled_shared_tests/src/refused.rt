@@ -14,11 +14,10 @@ use crate::replay::ask_again;
 use crate::rows::OTHER;
 use sled_pagecache::sled_base::Refusal;
 use sled_pagecache::{Error, IVec, Link, MemLog, Node, PageCache, PageId, PageView};
-use sled_shared::{Book, Called, Ending, Entry, Share, SharedPageCache, SwapAnswer, Tally};
+use sled_shared::{Blank, Book, Called, Ending, Entry, Share, SharedPageCache, SwapAnswer, Tally};
 use std::alloc::Global;
 use std::marker::Brand;
 use std::sync::Wait;
-use std::sync::ledger::Blank;
 
 #[derive(Clone, Copy)]
 enum Call {
@@ -250,7 +249,7 @@ fn made<K: Tally, R: Wait>(
     blank: Blank,
     parts: u64,
 ) -> Option<Made>
-    requires name { blank.name ≡ K.name }
+    requires name { (blank.name ≡ K.name) × (blank.history ≡ K.history) }
     requires parts { (blank.parts ≡ parts) × (K.parts ≡ parts) × (0 < parts) }
     requires known { ¬ K.known }
 {
@@ -285,7 +284,7 @@ fn replays<K: Tally, R: Wait>(
     blank: Blank,
     parts: u64,
 ) -> Option<bool>
-    requires name { blank.name ≡ K.name }
+    requires name { (blank.name ≡ K.name) × (blank.history ≡ K.history) }
     requires parts { (blank.parts ≡ parts) × (K.parts ≡ parts) × (0 < parts) }
 {
     let again = shared::<K>(alloc, usize::MAX, parts, blank).ok()?;

@@ -6,10 +6,9 @@ use crate::asking::copies_of;
 use crate::crews::shared;
 use crate::entered::texts_of;
 use sled_pagecache::{Error, MemLog};
-use sled_shared::{Book, Called, Entry, Share, SharedPageCache, Tally};
+use sled_shared::{Blank, Book, Called, Entry, Share, SharedPageCache, Tally};
 use std::alloc::{AllocError, Global};
 use std::sync::Wait;
-use std::sync::ledger::Blank;
 
 /// Makes the calls of two books once more, in their order, of a new cache, and answers the texts of what was entered then.
 pub fn replayed<K: Tally, R: Wait>(
@@ -20,7 +19,7 @@ pub fn replayed<K: Tally, R: Wait>(
     blank: Blank,
     parts: u64,
 ) -> Result<Vec<String>, Error>
-    requires name { blank.name ≡ K.name }
+    requires name { (blank.name ≡ K.name) × (blank.history ≡ K.history) }
     requires parts { (blank.parts ≡ parts) × (K.parts ≡ parts) × (0 < parts) }
 {
     let again = shared::<K>(alloc, usize::MAX, parts, blank)?;

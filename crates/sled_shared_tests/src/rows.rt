@@ -5,10 +5,9 @@ ghost use Rattle.std.specs.Prelude.{◌≡◌, ◌<◌};
 use crate::asking::ask_in_a_row;
 use crate::crews::shared;
 use sled_pagecache::{Error, MemLog, Node, PageView, Why};
-use sled_shared::{Share, SharedPageCache, Swap, SwapAnswer, Tally};
+use sled_shared::{Blank, Share, SharedPageCache, Swap, SwapAnswer, Tally};
 use std::alloc::{AllocError, Global};
 use std::sync::Wait;
-use std::sync::ledger::Blank;
 
 /// An answer that isn't looked at.
 pub const OTHER: u64 = u64::MAX;
@@ -24,7 +23,7 @@ pub fn rows<K: Tally, R: Wait>(
     blank: Blank,
     parts: u64,
 ) -> Option<([u64; 4], u64, u64, (u64, u64, u64))>
-    requires name { blank.name ≡ K.name }
+    requires name { (blank.name ≡ K.name) × (blank.history ≡ K.history) }
     requires parts { (blank.parts ≡ parts) × (K.parts ≡ parts) × (0 < parts) }
 {
     let shared = shared::<K>(alloc, 2, parts, blank).ok()?;
@@ -87,7 +86,7 @@ pub fn batch_rows<K: Tally, R: Wait>(
     blank: Blank,
     parts: u64,
 ) -> Option<(bool, usize, u64, u64)>
-    requires name { blank.name ≡ K.name }
+    requires name { (blank.name ≡ K.name) × (blank.history ≡ K.history) }
     requires parts { (blank.parts ≡ parts) × (K.parts ≡ parts) × (0 < parts) }
 {
     let shared = shared::<K>(alloc, 20, parts, blank).ok()?;
@@ -148,7 +147,7 @@ pub fn answers_in_a_row<K: Tally, R: Wait>(
     blank: Blank,
     parts: u64,
 ) -> Option<Vec<String>>
-    requires name { blank.name ≡ K.name }
+    requires name { (blank.name ≡ K.name) × (blank.history ≡ K.history) }
     requires parts { (blank.parts ≡ parts) × (K.parts ≡ parts) × (0 < parts) }
 {
     let shared = shared::<K>(alloc, 20, parts, blank).ok()?;

@@ -7,8 +7,8 @@ use crate::refused::goes_on;
 use crate::replay::replayed;
 use crate::rows::{FULL, answers_in_a_row, are, batch_rows, end_so, rows};
 use crate::tokens::{strange, strange_again};
+use sled_shared::Blank;
 use std::marker::Brand;
-use std::sync::ledger::Blank;
 use std::test::Fail;
 
 #[test]

@@ -9,10 +9,9 @@ use crate::faults::CONFIG;
 use crate::replay::ask_again;
 use crate::rows::end_so;
 use sled_pagecache::{Error, MemLog, Node, PageCache, PageId, PageView, Why};
-use sled_shared::{Book, Share, SharedPageCache, Tally};
+use sled_shared::{Blank, Book, Share, SharedPageCache, Tally};
 use std::alloc::Global;
 use std::sync::Wait;
-use std::sync::ledger::Blank;
 
 const MID: u64 = 1 << 32;
 
@@ -72,7 +71,7 @@ fn ready<K: Tally, R: Wait>(
     blank: Blank,
     parts: u64,
 ) -> Option<(SharedPageCache<MemLog, K>, Share<K>)>
-    requires name { blank.name ≡ K.name }
+    requires name { (blank.name ≡ K.name) × (blank.history ≡ K.history) }
     requires parts { (blank.parts ≡ parts) × (K.parts ≡ parts) × (0 < parts) }
     requires known { ¬ K.known }
 {
@@ -164,7 +163,7 @@ pub fn strange<K: Tally, R: Wait>(
     blank: Blank,
     parts: u64,
 ) -> Option<(Book, Vec<String>)>
-    requires name { blank.name ≡ K.name }
+    requires name { (blank.name ≡ K.name) × (blank.history ≡ K.history) }
     requires parts { (blank.parts ≡ parts) × (K.parts ≡ parts) × (0 < parts) }
     requires known { ¬ K.known }
 {
@@ -195,7 +194,7 @@ pub fn strange_again<K: Tally, R: Wait>(
     blank: Blank,
     parts: u64,
 ) -> Option<Vec<String>>
-    requires name { blank.name ≡ K.name }
+    requires name { (blank.name ≡ K.name) × (blank.history ≡ K.history) }
     requires parts { (blank.parts ≡ parts) × (K.parts ≡ parts) × (0 < parts) }
     requires known { ¬ K.known }
 {

@@ -5,4 +5,4 @@ abbrev pub ghosts-draw-K-Ledger : goal.ghosts-draw-K-Ledger
 ghosts-draw-K-Ledger g a = record { name = a.blank.name; parts = a.blank.parts }
 
 abbrev pub ghosts-draw-K-Tally : goal.ghosts-draw-K-Tally
-ghosts-draw-K-Tally g a = record { known = ⊥ }
+ghosts-draw-K-Tally g a = record { known = ⊥; history = a.blank.history }

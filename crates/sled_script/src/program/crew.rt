@@ -1,12 +1,12 @@
 //! Threads that draw ids of one cache.
 
-ghost use Rattle.std.specs.Prelude.{◌≡◌, ◌<◌, ◌≤◌, ◌+◌, ◌*◌, ◌^◌, IfOk, sum};
+ghost use Rattle.std.specs.Prelude.{◌≡◌, ◌<◌, ◌≤◌, ◌+◌, ◌*◌, ◌^◌, IfOk, sum_by};
+ghost use Rattle.sled_shared.specs.Held.{count_of};
 
 use super::open_memory;
 use sled_pagecache::{Error, MemLog};
-use sled_shared::{Gate, Held, Share, SharedPageCache, Tally, run_crew};
+use sled_shared::{Blank, Gate, Held, Share, SharedPageCache, Tally, run_crew};
 use std::alloc::Global;
-use std::sync::ledger::Blank;
 use std::sync::{Arc, Wait};
 use std::thread::Threads;
 
@@ -30,7 +30,7 @@ pub fn draw_ids<K: Tally + Send + Sync + 'static, T: Threads + Wait + Copy + Sen
 ) -> Result<u64, Error>
     requires workers { workers ≤ 64 }
     requires calls { calls ≤ 10000 }
-    requires name { blank.name ≡ K.name }
+    requires name { (blank.name ≡ K.name) × (blank.history ≡ K.history) }
     requires parts { (blank.parts ≡ workers + 1) × (K.parts ≡ workers + 1) }
     ensures { IfOk result (λ made. made ≡ workers * calls) }
 {
@@ -57,8 +57,8 @@ pub fn draw_ids<K: Tally + Send + Sync + 'static, T: Threads + Wait + Copy + Sen
 
 // The sum of the counts.
 fn sum_of<K: Tally>(shares: &[Share<K>]) -> u64
-    requires { sum shares.now < 2 ^ 64 }
-    ensures { result ≡ sum shares.now }
+    requires { sum_by count_of shares.now < 2 ^ 64 }
+    ensures { result ≡ sum_by count_of shares.now }
 {
     let mut sum = 0;
     for share in shares {

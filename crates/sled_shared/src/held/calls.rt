@@ -46,6 +46,7 @@ impl<L: Log, K: Tally> Held<L, K> {
         enter(
             &mut self.entries,
             &mut self.total,
+            &mut self.history,
             mine,
             Called::Allocate(copy, kept),
         );
@@ -73,6 +74,7 @@ impl<L: Log, K: Tally> Held<L, K> {
         enter(
             &mut self.entries,
             &mut self.total,
+            &mut self.history,
             mine,
             Called::Get(pid, kept),
         );
@@ -104,6 +106,7 @@ impl<L: Log, K: Tally> Held<L, K> {
         enter(
             &mut self.entries,
             &mut self.total,
+            &mut self.history,
             mine,
             Called::Link(copy, kept),
         );
@@ -135,6 +138,7 @@ impl<L: Log, K: Tally> Held<L, K> {
         enter(
             &mut self.entries,
             &mut self.total,
+            &mut self.history,
             mine,
             Called::Replace(copy, kept),
         );
@@ -164,6 +168,7 @@ impl<L: Log, K: Tally> Held<L, K> {
         enter(
             &mut self.entries,
             &mut self.total,
+            &mut self.history,
             mine,
             Called::Free(old, kept),
         );
@@ -187,6 +192,7 @@ impl<L: Log, K: Tally> Held<L, K> {
         enter(
             &mut self.entries,
             &mut self.total,
+            &mut self.history,
             mine,
             Called::GenerateId(kept),
         );
@@ -210,6 +216,7 @@ impl<L: Log, K: Tally> Held<L, K> {
         enter(
             &mut self.entries,
             &mut self.total,
+            &mut self.history,
             mine,
             Called::Flush(kept),
         );
@@ -240,6 +247,7 @@ impl<L: Log, K: Tally> Held<L, K> {
         enter(
             &mut self.entries,
             &mut self.total,
+            &mut self.history,
             mine,
             Called::CasRoot(copy, kept),
         );
@@ -264,6 +272,7 @@ impl<L: Log, K: Tally> Held<L, K> {
         enter(
             &mut self.entries,
             &mut self.total,
+            &mut self.history,
             mine,
             Called::MetaPidForName(copy, kept),
         );
@@ -287,6 +296,7 @@ impl<L: Log, K: Tally> Held<L, K> {
         enter(
             &mut self.entries,
             &mut self.total,
+            &mut self.history,
             mine,
             Called::OpenTree(copy, kept),
         );
@@ -321,6 +331,7 @@ impl<L: Log, K: Tally> Held<L, K> {
         enter(
             &mut self.entries,
             &mut self.total,
+            &mut self.history,
             mine,
             Called::Batch(asked, kept),
         );

@@ -4,8 +4,10 @@ ghost use Rattle.std.specs.Prelude.{◌≡◌, ◌+◌, ◌-◌, ◌^◌, ◌<�
 ghost use Rattle.sled_base.specs.declared.types.Error.TheVariants.{Unsupported, OutOfMemory};
 ghost use Rattle.sled_base.specs.declared.types.Why.TheVariants.{BookFull};
 ghost use Rattle.sled_shared.specs.Kept.{entry_of};
+ghost use Rattle.sled_shared.specs.Held.{HasTold};
 
 use crate::entry::{Called, Entry};
+use crate::history::History;
 use crate::keeping::Spare;
 use crate::share::{Share, Tally};
 use sled_base::{Error, Refusal, Why};
@@ -40,23 +42,30 @@ pub(super) fn make_room(
     Ok(())
 }
 
-// Enters a call: the entry, the total and the caller's share.
+// Enters a call: the entry, the total, the history and the caller's share.
+#[tactic(auto, using(crate::proofs::HistorySteps::counts_one))]
 pub(super) fn enter<K: Tally>(
     entries: &mut Vec<Entry>,
     total: &mut ledger::Book<K>,
+    history: &mut History<Entry>,
     mine: &mut Share<K>,
     called: Called,
 )
     requires room { vec_len entries.old < vec_capacity entries.old }
     requires fits { total.old.total < 2 ^ 64 - 1 }
+    requires named { history.old.name ≡ K.history }
     ensures entry { entries.new.items ≡ entries.old.items ++ entry_of called ∷ [] }
     ensures len { vec_len entries.new ≡ vec_len entries.old + 1 }
     ensures total { total.new.total ≡ total.old.total + 1 }
-    ensures counted { mine.new ≡ mine.old + 1 }
+    ensures name { history.new.name ≡ history.old.name }
+    ensures line { history.new.log ≡ history.old.log ++ (mine.old.number, entry_of called) ∷ [] }
+    ensures told { HasTold mine.old (entry_of called) mine.new }
 {
-    let Share { mark, count } = mine;
+    let Share { mark, pen, count } = mine;
     total.audit(mark);
     total.add(mark, 1);
     *count += 1;
-    entries.push_reserved(Entry::new(called));
+    let entry = Entry::new(called);
+    history.enter(pen, &entry);
+    entries.push_reserved(entry);
 }

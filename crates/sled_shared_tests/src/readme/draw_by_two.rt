@@ -2,9 +2,8 @@ ghost use Rattle.std.specs.Prelude.{◌≡◌, false};
 ghost use Rattle.sled_pagecache.specs.Trees.{IsKnown};
 
 use sled_pagecache::{Error, Log, PageCache};
-use sled_shared::{Gate, SharedPageCache, Tally, run_crew};
+use sled_shared::{Blank, Gate, SharedPageCache, Tally, run_crew};
 use std::alloc::Global;
-use std::sync::ledger::Blank;
 use std::sync::{Arc, Wait};
 use std::thread::Threads;
 
@@ -24,7 +23,7 @@ fn draw_by_two<
     K: Tally + Send + Sync + 'static,
     R: Threads + Wait + Copy + Send + 'static,
 >(rt: R, alloc: Global, cache: PageCache<L>, blank: Blank, calls: u64) -> Result<usize, Error>
-    requires name { blank.name ≡ K.name }
+    requires name { (blank.name ≡ K.name) × (blank.history ≡ K.history) }
     requires parts { (blank.parts ≡ 3) × (K.parts ≡ 3) }
     requires closed { cache.batch ≡ false }
     requires known { K.known → L.tells → IsKnown L.Log cache }

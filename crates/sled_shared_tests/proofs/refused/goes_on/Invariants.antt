@@ -5,10 +5,10 @@ abbrev pub ghosts-made-K-Ledger : goal.ghosts-made-K-Ledger
 ghosts-made-K-Ledger g a = record { name = a.blank.name; parts = a.blank.parts }
 
 abbrev pub ghosts-made-K-Tally : goal.ghosts-made-K-Tally
-ghosts-made-K-Tally g a = record { known = ⊥ }
+ghosts-made-K-Tally g a = record { known = ⊥; history = a.blank.history }
 
 abbrev pub ghosts-replays-K-Ledger : goal.ghosts-replays-K-Ledger
 ghosts-replays-K-Ledger g a = record { name = a.blank.name; parts = a.blank.parts }
 
 abbrev pub ghosts-replays-K-Tally : goal.ghosts-replays-K-Tally
-ghosts-replays-K-Tally g a = record { known = ⊥ }
+ghosts-replays-K-Tally g a = record { known = ⊥; history = a.blank.history }

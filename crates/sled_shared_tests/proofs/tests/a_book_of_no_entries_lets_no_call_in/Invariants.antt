@@ -6,4 +6,4 @@ abbrev pub ghosts-without_room-K-Ledger : goal.ghosts-without_room-K-Ledger
 ghosts-without_room-K-Ledger g a = record { name = a.blank.name; parts = a.blank.parts }
 
 abbrev pub ghosts-without_room-K-Tally : goal.ghosts-without_room-K-Tally
-ghosts-without_room-K-Tally g a = record { known = ⊤ }
+ghosts-without_room-K-Tally g a = record { known = ⊤; history = a.blank.history }

@@ -5,4 +5,4 @@ abbrev pub ghosts-kept_before-K-Ledger : goal.ghosts-kept_before-K-Ledger
 ghosts-kept_before-K-Ledger g a = record { name = a.blank.name; parts = a.blank.parts }
 
 abbrev pub ghosts-kept_before-K-Tally : goal.ghosts-kept_before-K-Tally
-ghosts-kept_before-K-Tally g a = record { known = ⊥ }
+ghosts-kept_before-K-Tally g a = record { known = ⊥; history = a.blank.history }

@@ -6,4 +6,4 @@ abbrev pub ghosts-closings-K-Ledger : goal.ghosts-closings-K-Ledger
 ghosts-closings-K-Ledger g a = record { name = a.blank.name; parts = a.blank.parts }
 
 abbrev pub ghosts-closings-K-Tally : goal.ghosts-closings-K-Tally
-ghosts-closings-K-Tally g a = record { known = ⊤ }
+ghosts-closings-K-Tally g a = record { known = ⊤; history = a.blank.history }

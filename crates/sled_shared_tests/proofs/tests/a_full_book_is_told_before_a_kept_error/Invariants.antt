@@ -5,4 +5,4 @@ abbrev pub ghosts-kept_error-K-Ledger : goal.ghosts-kept_error-K-Ledger
 ghosts-kept_error-K-Ledger g a = record { name = a.blank.name; parts = a.blank.parts }
 
 abbrev pub ghosts-kept_error-K-Tally : goal.ghosts-kept_error-K-Tally
-ghosts-kept_error-K-Tally g a = record { known = ⊥ }
+ghosts-kept_error-K-Tally g a = record { known = ⊥; history = a.blank.history }

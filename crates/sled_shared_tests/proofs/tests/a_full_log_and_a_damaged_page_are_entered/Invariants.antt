@@ -5,4 +5,4 @@ abbrev pub ghosts-poor-K-Ledger : goal.ghosts-poor-K-Ledger
 ghosts-poor-K-Ledger g a = record { name = a.blank.name; parts = a.blank.parts }
 
 abbrev pub ghosts-poor-K-Tally : goal.ghosts-poor-K-Tally
-ghosts-poor-K-Tally g a = record { known = ⊥ }
+ghosts-poor-K-Tally g a = record { known = ⊥; history = a.blank.history }

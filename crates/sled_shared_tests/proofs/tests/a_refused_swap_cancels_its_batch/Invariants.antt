@@ -6,4 +6,4 @@ abbrev pub ghosts-batch_rows-K-Ledger : goal.ghosts-batch_rows-K-Ledger
 ghosts-batch_rows-K-Ledger g a = record { name = a.blank.name; parts = a.blank.parts }
 
 abbrev pub ghosts-batch_rows-K-Tally : goal.ghosts-batch_rows-K-Tally
-ghosts-batch_rows-K-Tally g a = record { known = ⊤ }
+ghosts-batch_rows-K-Tally g a = record { known = ⊤; history = a.blank.history }

@@ -6,4 +6,4 @@ abbrev pub ghosts-asked_by_four-K-Ledger : goal.ghosts-asked_by_four-K-Ledger
 ghosts-asked_by_four-K-Ledger g a = record { name = a.blank.name; parts = a.blank.parts }
 
 abbrev pub ghosts-asked_by_four-K-Tally : goal.ghosts-asked_by_four-K-Tally
-ghosts-asked_by_four-K-Tally g a = record { known = ⊤ }
+ghosts-asked_by_four-K-Tally g a = record { known = ⊤; history = a.blank.history }

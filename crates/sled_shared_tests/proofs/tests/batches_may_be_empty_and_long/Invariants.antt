@@ -6,4 +6,4 @@ abbrev pub ghosts-batches-K-Ledger : goal.ghosts-batches-K-Ledger
 ghosts-batches-K-Ledger g a = record { name = a.blank.name; parts = a.blank.parts }
 
 abbrev pub ghosts-batches-K-Tally : goal.ghosts-batches-K-Tally
-ghosts-batches-K-Tally g a = record { known = ⊤ }
+ghosts-batches-K-Tally g a = record { known = ⊤; history = a.blank.history }

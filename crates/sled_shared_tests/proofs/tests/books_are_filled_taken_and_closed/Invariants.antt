@@ -6,4 +6,4 @@ abbrev pub ghosts-rows-K-Ledger : goal.ghosts-rows-K-Ledger
 ghosts-rows-K-Ledger g a = record { name = a.blank.name; parts = a.blank.parts }
 
 abbrev pub ghosts-rows-K-Tally : goal.ghosts-rows-K-Tally
-ghosts-rows-K-Tally g a = record { known = ⊤ }
+ghosts-rows-K-Tally g a = record { known = ⊤; history = a.blank.history }

@@ -6,10 +6,10 @@ abbrev pub ghosts-asked_by_four-K-Ledger : goal.ghosts-asked_by_four-K-Ledger
 ghosts-asked_by_four-K-Ledger g a = record { name = a.blank.name; parts = a.blank.parts }
 
 abbrev pub ghosts-asked_by_four-K-Tally : goal.ghosts-asked_by_four-K-Tally
-ghosts-asked_by_four-K-Tally g a = record { known = ⊤ }
+ghosts-asked_by_four-K-Tally g a = record { known = ⊤; history = a.blank.history }
 
 abbrev pub ghosts-replayed-K-Ledger : goal.ghosts-replayed-K-Ledger
 ghosts-replayed-K-Ledger g a = record { name = a.blank.name; parts = a.blank.parts }
 
 abbrev pub ghosts-replayed-K-Tally : goal.ghosts-replayed-K-Tally
-ghosts-replayed-K-Tally g a = record { known = ⊤ }
+ghosts-replayed-K-Tally g a = record { known = ⊤; history = a.blank.history }

@@ -6,4 +6,4 @@ abbrev pub ghosts-crew_of-K-Ledger : goal.ghosts-crew_of-K-Ledger
 ghosts-crew_of-K-Ledger g a = record { name = a.blank.name; parts = a.blank.parts }
 
 abbrev pub ghosts-crew_of-K-Tally : goal.ghosts-crew_of-K-Tally
-ghosts-crew_of-K-Tally g a = record { known = ⊤ }
+ghosts-crew_of-K-Tally g a = record { known = ⊤; history = a.blank.history }

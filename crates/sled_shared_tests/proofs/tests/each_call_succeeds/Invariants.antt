@@ -6,4 +6,4 @@ abbrev pub ghosts-answers_in_a_row-K-Ledger : goal.ghosts-answers_in_a_row-K-Led
 ghosts-answers_in_a_row-K-Ledger g a = record { name = a.blank.name; parts = a.blank.parts }
 
 abbrev pub ghosts-answers_in_a_row-K-Tally : goal.ghosts-answers_in_a_row-K-Tally
-ghosts-answers_in_a_row-K-Tally g a = record { known = ⊤ }
+ghosts-answers_in_a_row-K-Tally g a = record { known = ⊤; history = a.blank.history }

@@ -4,14 +4,16 @@ use Rattle.sled_pagecache.specs.declared.pagecache.handles.call.Call.TheVariants
 use Rattle.sled_shared.specs.Book.{book}
 use Rattle.sled_shared.specs.Calls.{Answered, Asked, entry}
 use Rattle.sled_shared.specs.Held.{held}
-use Rattle.sled_shared.proofs.Replays.{entered_as, one_served, one_sound, room_left}
+use Rattle.sled_shared.proofs.Replays.{entered_as, kept_on, told_as, one_served, one_sound, room_left}
 use Rattle.sled_shared.proofs.held.Held.cas_root_in_meta.Goals as goal
 
 pub invariant_of-self-2 : goal.invariant_of-self-2
 invariant_of-self-2 g c =
     let told = c.cas_root_in_meta-answer in
-    let more : c.enter.new.entries.items ≡ c.self.inside.entries.items ++ entry (Asked (CasRoot c.args.name.now c.args.old c.args.new)) (Answered (RootSwapped told.result)) ∷ [] = entered_as c.enter.ensures.entry c.make_room.ensures.entries (rw (c.in_ok-copy.ensures.0, c.in_ok-copy.ensures.1, c.in_ok-copy.ensures.2) (ap (λ a. entry (Asked (CasRoot c.args.name.now c.args.old c.args.new)) (Answered (RootSwapped a))) c.keep-kept.ensures)) in
-    one_sound g.L.Log g.K.Tally.known c.self.invariant (CasRoot c.args.name.now c.args.old c.args.new) (RootSwapped told.result) told.new.self (record { step = told.ensures.step; bytes = tt; faults = told.ensures.blame; covered = tt; keeps = told.ensures.keeps }) _ _ told.ensures.keeps.batch more (search rules) (room_left c.self.invariant (search rules))
+    let more : c.enter.new.entries.items ≡ c.self.inside.entries.items ++ entry (Asked (CasRoot c.args.name.now c.args.old c.args.new)) (Answered (RootSwapped told.result)) ∷ [] = entered_as c.enter.ensures.entry c.make_room.ensures.entries (rw (c.in_ok-copy.ensures.0, c.in_ok-copy.ensures.1, c.in_ok-copy.ensures.2) (ap (λ a. entry (Asked (CasRoot c.args.name.now c.args.old c.args.new)) (Answered (RootSwapped a))) c.keep-kept.ensures)) in (
+      one_sound g.L.Log g.K.Tally.known c.self.invariant.0 (CasRoot c.args.name.now c.args.old c.args.new) (RootSwapped told.result) told.new.self (record { step = told.ensures.step; bytes = tt; faults = told.ensures.blame; covered = tt; keeps = told.ensures.keeps }) _ _ told.ensures.keeps.batch more (search rules) (room_left c.self.invariant.0 (search rules)),
+      kept_on c.args.mine.now.number _ c.self.invariant.1 c.enter.ensures.entry c.make_room.ensures.entries c.enter.ensures.name c.enter.ensures.line,
+    )
 
 pub returns : goal.returns
 returns g c =
@@ -21,4 +23,4 @@ returns g c =
     let h = held self.cache (book self.earlier self.opening self.entries.items) self.limit self.given self.left in
     rw (← c.self.view_is)
     (one_served g.L.Log g.met.L.Log.only_now h c.args.mine.now (CasRoot c.args.name.now c.args.old c.args.new) (RootSwapped told.result) told.new.self c.enter.new.entries.items _
-    (search rules) (record { step = told.ensures.step; bytes = tt; faults = told.ensures.blame; covered = tt; keeps = told.ensures.keeps }) more c.enter.ensures.counted)
+    (search rules) (record { step = told.ensures.step; bytes = tt; faults = told.ensures.blame; covered = tt; keeps = told.ensures.keeps }) more (told_as c.args.mine.now c.enter.new.mine c.enter.ensures.told (rw (c.in_ok-copy.ensures.0, c.in_ok-copy.ensures.1, c.in_ok-copy.ensures.2) (ap (λ a. entry (Asked (CasRoot c.args.name.now c.args.old c.args.new)) (Answered (RootSwapped a))) c.keep-kept.ensures))))

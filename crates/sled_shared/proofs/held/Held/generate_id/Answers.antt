@@ -5,14 +5,16 @@ use Rattle.sled_pagecache.specs.Inside.MadeLaws.{id-made}
 use Rattle.sled_shared.specs.Book.{book}
 use Rattle.sled_shared.specs.Calls.{Answered, Asked, entry}
 use Rattle.sled_shared.specs.Held.{held}
-use Rattle.sled_shared.proofs.Replays.{entered_as, one_served, one_sound, room_left}
+use Rattle.sled_shared.proofs.Replays.{entered_as, kept_on, told_as, one_served, one_sound, room_left}
 use Rattle.sled_shared.proofs.held.Held.generate_id.Goals as goal
 
 pub invariant_of-self-2 : goal.invariant_of-self-2
 invariant_of-self-2 g c =
     let told = c.generate_id_inner-answer in
-    let more : c.enter.new.entries.items ≡ c.self.inside.entries.items ++ entry (Asked GenerateId) (Answered (Generated told.result)) ∷ [] = entered_as c.enter.ensures.entry c.make_room.ensures.entries (ap (λ a. entry (Asked GenerateId) (Answered (Generated a))) c.keep-kept.ensures) in
-    one_sound g.L.Log g.K.Tally.known c.self.invariant GenerateId (Generated told.result) told.new.self (id-made g.L.Log _ _ told.result told.ensures.step told.ensures.blame told.ensures.covered told.ensures.keeps told.ensures.id told.ensures.gives) _ _ told.ensures.keeps.batch more (search rules) (room_left c.self.invariant (search rules))
+    let more : c.enter.new.entries.items ≡ c.self.inside.entries.items ++ entry (Asked GenerateId) (Answered (Generated told.result)) ∷ [] = entered_as c.enter.ensures.entry c.make_room.ensures.entries (ap (λ a. entry (Asked GenerateId) (Answered (Generated a))) c.keep-kept.ensures) in (
+      one_sound g.L.Log g.K.Tally.known c.self.invariant.0 GenerateId (Generated told.result) told.new.self (id-made g.L.Log _ _ told.result told.ensures.step told.ensures.blame told.ensures.covered told.ensures.keeps told.ensures.id told.ensures.gives) _ _ told.ensures.keeps.batch more (search rules) (room_left c.self.invariant.0 (search rules)),
+      kept_on c.args.mine.now.number _ c.self.invariant.1 c.enter.ensures.entry c.make_room.ensures.entries c.enter.ensures.name c.enter.ensures.line,
+    )
 
 pub returns : goal.returns
 returns g c =
@@ -22,4 +24,4 @@ returns g c =
     let h = held self.cache (book self.earlier self.opening self.entries.items) self.limit self.given self.left in
     rw (← c.self.view_is)
     (one_served g.L.Log g.met.L.Log.only_now h c.args.mine.now GenerateId (Generated told.result) told.new.self c.enter.new.entries.items _
-    (search rules) (id-made g.L.Log _ _ told.result told.ensures.step told.ensures.blame told.ensures.covered told.ensures.keeps told.ensures.id told.ensures.gives) more c.enter.ensures.counted)
+    (search rules) (id-made g.L.Log _ _ told.result told.ensures.step told.ensures.blame told.ensures.covered told.ensures.keeps told.ensures.id told.ensures.gives) more (told_as c.args.mine.now c.enter.new.mine c.enter.ensures.told (ap (λ a. entry (Asked GenerateId) (Answered (Generated a))) c.keep-kept.ensures)))

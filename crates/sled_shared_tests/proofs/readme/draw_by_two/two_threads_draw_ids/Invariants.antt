@@ -6,4 +6,4 @@ abbrev pub ghosts-draw_by_two-K-Ledger : goal.ghosts-draw_by_two-K-Ledger
 ghosts-draw_by_two-K-Ledger g a = record { name = a.blank.name; parts = a.blank.parts }
 
 abbrev pub ghosts-draw_by_two-K-Tally : goal.ghosts-draw_by_two-K-Tally
-ghosts-draw_by_two-K-Tally g a = record { known = ⊤ }
+ghosts-draw_by_two-K-Tally g a = record { known = ⊤; history = a.blank.history }

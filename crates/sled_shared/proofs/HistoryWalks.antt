@@ -1,0 +1,58 @@
+-- The machine value of a token, how a walk ends, and that the tokens name no thread. Assumes `Logic`.
+use Rattle.std.proofs.Common.{ℕ, List, [], ◌∷◌, refl}
+use mathlib.Core.List.{reverse}
+use seplogic.Ra.Ura.{Ura}
+use mir.Val.{Val, vstruct, vcons, vnil}
+use base.Stored.{Gv}
+use base.Logic.{ent, sep, emp}
+use base.Growing.{latest, at_least}
+use base.Shift.{Keyless}
+use types.Logic.{Logic, sem}
+use types.Kit.{‵, raw, ◌$◌, ◌∵◌, !, qed, by, move, join, suffices, done, use0}
+use denote.RattleType.{RattleType}
+use denote.Shadow.{makes_shadow}
+use denote.Signature.{type_at}
+use denote.Struct.Struct.{Struct}
+use denote.Triple.Clauses.{Ended, Clauses, Lasts, at_exit}
+use denote.Triple.Entry.{Res, alive}
+use denote.Triple.Walked.{Stays, Fit, has_of, walk_of, ends_at}
+use Rattle.core.specs.contracts.marker.PhantomData as marker
+use Rattle.sled_shared.specs.History.{Line, counted, history_owns, pen_owns}
+
+abbrev pub token : Val
+token = vstruct (vcons (vstruct vnil) vnil)
+
+module _ (X : RattleType) where
+  abbrev pub Token : RattleType
+  Token = Struct record { name = []; args = []; types = []; fields = marker.the_row X ∷ [] }
+
+  pub token_made : {M : Type 1} {𝓤 : Ura M} (𝓛 : Logic 𝓤) → ent 𝓤 (emp 𝓤) (sem 𝓛 (Token.own_val (record {}, tt) (token ∷ [])))
+  token_made 𝓛 = makes_shadow 𝓛 (Token.own_val (record {}, tt) (token ∷ [])) (λ vss. (tt, ((λ uss. (tt, tt)), tt))) ((vstruct vnil ∷ [], tt), (refl, ((tt, (refl, tt)), tt)))
+
+-- the tokens, what is left of the parameters, the result and the `ensures`
+leaves : {M : Type 1} {𝓤 : Ura M} (𝓛 : Logic 𝓤) (T : Ended) (hs : Stays T.signature.params T.kept) (c : Clauses 𝓤 T) (y : (walk_of 𝓛 T hs c).Ghost) (v : Val) (r : Res T.signature y.0.0) (ws : Lasts T y.0.0 y.0.3)
+    → Fit T hs y.0.0 y.0.3 ws
+    → ent 𝓤 (sep 𝓤 (alive 𝓛 T.signature y.0.0 y.0.1) (sep 𝓤 (sem 𝓛 (has_of y.0.0 T.signature.params T.kept hs y.0.3 ws y.0.4)) (sep 𝓤 (sem 𝓛 ((type_at T.signature.result y.0.0).own_val r (v ∷ [])))
+    ((c y.0.0 y.0.3).ensures y.1 r (at_exit T y.0.0 y.0.3 ws))))) ((walk_of 𝓛 T hs c).post y v)
+leaves 𝓛 T hs c y v r ws fit = qed 𝓛 (raw (alive 𝓛 T.signature y.0.0 y.0.1) ∷ ‵ (has_of y.0.0 T.signature.params T.kept hs y.0.3 ws y.0.4) ∷ ‵ ((type_at T.signature.result y.0.0).own_val r (v ∷ []))
+    ∷ raw ((c y.0.0 y.0.3).ensures y.1 r (at_exit T y.0.0 y.0.3 ws)) ∷ []) ∵ suffices ! _ (ends_at 𝓛 T hs c y v r ws fit) $ move ! (1 ∷ 2 ∷ []) $ join ! $ move ! (1 ∷ 0 ∷ []) $ join ! $ done !
+
+pub ends : {M : Type 1} {𝓤 : Ura M} (𝓛 : Logic 𝓤) (T : Ended) (hs : Stays T.signature.params T.kept) (c : Clauses 𝓤 T) (y : (walk_of 𝓛 T hs c).Ghost) (v : Val) (r : Res T.signature y.0.0) (ws : Lasts T y.0.0 y.0.3)
+    → Fit T hs y.0.0 y.0.3 ws → ent 𝓤 (emp 𝓤) ((c y.0.0 y.0.3).ensures y.1 r (at_exit T y.0.0 y.0.3 ws))
+    → ent 𝓤 (sep 𝓤 (alive 𝓛 T.signature y.0.0 y.0.1) (sep 𝓤 (sem 𝓛 (has_of y.0.0 T.signature.params T.kept hs y.0.3 ws y.0.4)) (sem 𝓛 ((type_at T.signature.result y.0.0).own_val r (v ∷ []))))) ((walk_of 𝓛 T hs c).post y v)
+ends 𝓛 T hs c y v r ws fit told = qed 𝓛 (raw (alive 𝓛 T.signature y.0.0 y.0.1) ∷ ‵ (has_of y.0.0 T.signature.params T.kept hs y.0.3 ws y.0.4) ∷ ‵ ((type_at T.signature.result y.0.0).own_val r (v ∷ [])) ∷ []) ∵
+    use0 𝓛 (raw ((c y.0.0 y.0.3).ensures y.1 r (at_exit T y.0.0 y.0.3 ws))) told $ move ! (1 ∷ 2 ∷ 3 ∷ []) $ by ! (leaves 𝓛 T hs c y v r ws fit)
+
+module _ {E : Type 0} (c : E → Gv) where
+  counted_keyless : (log : List (Line E)) → Keyless (counted log)
+  unfolding at_least
+  counted_keyless [] = tt
+  counted_keyless (x ∷ log) = (tt, counted_keyless log)
+
+  pub history_keyless : (name : ℕ) (log : List (Line E)) → Keyless (history_owns c name log)
+  unfolding history_owns latest
+  history_keyless name log = (tt, counted_keyless (reverse log))
+
+  pub pen_keyless : (of k : ℕ) (seen : List (Line E)) → Keyless (pen_owns c of k seen)
+  unfolding pen_owns latest at_least
+  pen_keyless of k seen = (tt, tt)
