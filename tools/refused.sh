@@ -10,18 +10,19 @@
 #     tools/refused.sh
 #
 # It takes the program and the tests that `rt ci` has built, or `rt run` in crates/sledpc and `rt test` in crates/sled_node_tests, in
-# crates/sled_disk_tests, in crates/sled_pagecache_tests, in crates/sled_tree_tests and in crates/sled_shared_tests. The status is 0 where all
-# is so.
+# crates/sled_disk_tests, in crates/sled_pagecache_fault_tests, in crates/sled_pagecache_move_tests, in crates/sled_tree_fault_tests and in
+# crates/sled_shared_tests. The status is 0 where all is so.
 set -eu
 
 top=$(CDPATH='' cd -- "$(dirname -- "$0")/.." && pwd)
 program=$top/crates/sledpc/out/sledpc
 node=$top/crates/sled_node_tests/out/sled_node_tests_tests
 disk=$top/crates/sled_disk_tests/out/sled_disk_tests_tests
-cache=$top/crates/sled_pagecache_tests/out/sled_pagecache_tests_tests
-tree=$top/crates/sled_tree_tests/out/sled_tree_tests_tests
+cache=$top/crates/sled_pagecache_fault_tests/out/sled_pagecache_fault_tests_tests
+moves=$top/crates/sled_pagecache_move_tests/out/sled_pagecache_move_tests_tests
+tree=$top/crates/sled_tree_fault_tests/out/sled_tree_fault_tests_tests
 shared=$top/crates/sled_shared_tests/out/sled_shared_tests_tests
-for built in "$program" "$node" "$disk" "$cache" "$tree" "$shared"; do
+for built in "$program" "$node" "$disk" "$cache" "$moves" "$tree" "$shared"; do
     [ -x "$built" ] || { echo "refused.sh: there is no program $built"; exit 1; }
 done
 
@@ -290,9 +291,12 @@ each_of_tests() {
     done
     for name in faults::refuse_each_allocation memory::a_refused_allocation_leaves_a_batch_whole \
         memory::a_refused_allocation_leaves_what_was_made_of_a_tree memory::a_refused_allocation_uses_no_id \
-        memory::refused_allocations_change_nothing rewriting::a_refused_allocation_leaves_the_next_rewriting \
-        sizes::a_refused_allocation_leaves_the_next_measure snapshots::a_refused_allocation_leaves_the_next_snapshot; do
+        memory::refused_allocations_change_nothing; do
         each_of_test "$cache" "$name"
+    done
+    for name in rewriting::a_refused_allocation_leaves_the_next_rewriting sizes::a_refused_allocation_leaves_the_next_measure \
+        snapshots::a_refused_allocation_leaves_the_next_snapshot; do
+        each_of_test "$moves" "$name"
     done
     each_of_test "$tree" faults::refuse_each_allocation
     each_of_test "$tree" batches::refuse_each_allocation

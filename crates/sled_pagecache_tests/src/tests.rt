@@ -1,112 +1,41 @@
 mod batches;
-mod calls;
 mod corners;
 mod crashes;
-mod disk_crashes;
-mod disk_faults;
-mod disk_files;
 mod disk_law;
-mod disk_moves;
-mod disks;
 mod eviction;
-mod failing;
-mod faults;
 mod free;
 mod full;
 mod generic;
-mod hostile;
 mod id_law;
 mod ids;
-mod listed;
-mod live;
 mod many_names;
-mod memory;
-mod moved_blobs;
-mod moved_pages;
-mod moves;
-mod moves_added;
-mod moves_crashes;
-mod moves_damaged;
-mod moves_refused;
-mod no_memory;
 mod opening_law;
-mod openings;
 mod pages;
 mod prefixes;
 mod reads;
 mod recovery;
-mod rewriting;
 mod roots;
-mod scripts;
 mod served_law;
-mod sizes;
-mod snapshots;
-mod spilling;
-mod steps;
 mod tokens;
-mod told;
 mod trees;
 mod writes;
 
-use self::scripts::{Script, first_wrong, opened_over};
-use self::steps::Change::{Cap, Confirm, Del, Intend, Set};
-use self::steps::Outcome::{At, Gone, Refused, Stale, Unaccepted};
-use self::steps::Sight::{Absent, Between, Empty, Pair, Reserved};
-use self::steps::Step::{Adds, AddsBetween, Gets, Links, Recovered, Replaces};
-use self::steps::{Change, PAIR, Step};
 use sled_base::{
-    BlobPointer, Bug, Device, DiskPtr, Error, IVec, LogOffset, Lsn, MessageKind, PageId, PageState,
-    Refusal, Serialize, Why,
+    Device, DiskPtr, Error, IVec, Lsn, MessageKind, PageId, PageState, Refusal, Serialize, Why,
 };
-use sled_log::{Log, LogError, MemLog};
-use sled_node::{Data, Index, Item, Leaf, Link, Node};
+use sled_log::{Log, MemLog};
+use sled_node::{Data, Index, Leaf, Link, Node};
 use sled_pagecache::{Config, Disk, DiskLog, MemDisk, PageCache, PageView, open_tree};
+use sled_pagecache_testing::caches::{CONFIG, Cache, MANIFEST, log_if, log_of, opening, started};
+use sled_pagecache_testing::nodes::set;
+use sled_pagecache_testing::scripts::{Script, first_wrong, opened_over};
+use sled_pagecache_testing::steps::Change::{Cap, Confirm, Del, Intend, Set};
+use sled_pagecache_testing::steps::Outcome::{At, Gone, Refused, Stale, Unaccepted};
+use sled_pagecache_testing::steps::Sight::{Absent, Between, Empty, Pair, Reserved};
+use sled_pagecache_testing::steps::Step::{Adds, AddsBetween, Gets, Links, Recovered, Replaces};
+use sled_pagecache_testing::steps::{Change, PAIR, Step};
 use std::alloc::{AllocError, Global};
 use std::test::Fail;
-
-// The cache over the log in memory.
-type Cache = PageCache<MemLog>;
-
-const CONFIG: Config = Config {
-    cache_capacity: 1_048_576,
-    idgen_persist_interval: 10,
-    segment_size: 4096,
-};
-
-fn opening(alloc: Global, config: Config, log: MemLog) -> Result<Cache, (Error, MemLog)> {
-    if log.batch_open() {
-        return Err((Error::Unsupported(Why::BatchOpen), log));
-    }
-    PageCache::start(alloc, config, log)
-}
-
-// A cache over a new log, where payloads above so many bytes are blobs.
-fn started(alloc: Global, blob_limit: usize) -> Option<Cache> {
-    opening(alloc, CONFIG, MemLog::new(alloc, blob_limit, 16)).ok()
-}
-
-fn set(alloc: Global, key: &[u8], value: &[u8]) -> Result<Link, AllocError> {
-    Ok(Link::Set(
-        IVec::from_slice(alloc, key)?,
-        IVec::from_slice(alloc, value)?,
-    ))
-}
-
-// The log of a cache, if no batch is open.
-fn log_of<L: Log>(cache: PageCache<L>) -> Option<L> {
-    if cache.batch_open() {
-        return None;
-    }
-    Some(cache.into_log())
-}
-
-// The same, where the cache shows all that it should.
-fn log_if<L: Log>(cache: PageCache<L>, is_so: bool) -> Option<L> {
-    if is_so {
-        return log_of(cache);
-    }
-    None
-}
 
 // Whether a config has this fault, or none. A log that was refused, or that was in use, serves again.
 fn has_fault(alloc: Global, config: Config, fault: Option<Why>) -> bool {
@@ -131,22 +60,6 @@ fn serves_again(alloc: Global, cache: Cache) -> bool {
     log_of(cache).is_some_and(|log| serves(alloc, log))
 }
 
-// An empty leaf of the keys between these, of which the first byte is a prefix.
-fn node_between(alloc: Global, lo: &[u8], hi: &[u8]) -> Result<Option<Node>, AllocError> {
-    let lo = IVec::from_slice(alloc, lo)?;
-    let hi = IVec::from_slice(alloc, hi)?;
-    let leaf = Data::Leaf(Leaf::default(alloc));
-    Ok(Node::from_parts(1, None, None, false, lo, hi, leaf))
-}
-
-fn is_pair(node: &Node, key: &[u8], value: &[u8]) -> bool {
-    if node.len() != 1 {
-        return false;
-    }
-    let (stored, item) = node.pair(0);
-    stored == key && item == Item::Value(value)
-}
-
 #[test]
 fn the_first_fault_of_a_config_is_answered(rt: HostRuntime) {
     for (cache_capacity, idgen_persist_interval, segment_size, fault) in [
@@ -163,8 +76,6 @@ fn the_first_fault_of_a_config_is_answered(rt: HostRuntime) {
         assert!(rt; has_fault(rt.alloc(), config, fault), "{config:?}");
     }
 }
-
-const MANIFEST: PageId = u64::MAX - 666;
 
 const HELD: Step = Gets(2, Pair(2, b"b", b"v"));
 

@@ -170,7 +170,7 @@ fn is_passed_at_each_length(
     passes: &[Pass],
     left: &Left,
 ) -> Result<bool, AllocError> {
-    for len in [0, 1, 2, 3, 16, 17, 1_000] {
+    for len in [0, 1, 2, 3, 16, 17, 1_000, 1 << 17] {
         if !is_passed(alloc, passes, len, left)? {
             return Ok(false);
         }

@@ -32,8 +32,8 @@ fn are_accessed(alloc: Global, capacity: u64, accesses: Accesses) -> Result<bool
 
 // ---- each number of pages
 
-// A page of the first shard that isn't among the others, and comes behind 2^16 places.
-const LAST: PageId = 256 * 65_537;
+// A page of the first shard that isn't among the others, and comes behind 2^17 places.
+const LAST: PageId = 256 * 131_073;
 
 // Whether so many pages stay as they come, when they come again, and when they are larger.
 fn all_stay(lru: &mut Lru, count: u64, stride: u64) -> Result<bool, AllocError> {
@@ -64,9 +64,9 @@ fn are_first(pages: &[PageId], count: u64, stride: u64) -> bool {
 
 // Whether so many pages stay, and those of its shard leave, the first first, for a page that takes all of it.
 fn stay(alloc: Global, count: u64, stride: u64) -> Result<bool, Error> {
-    let mut lru = Lru::new(alloc, 1 << 20)?;
+    let mut lru = Lru::new(alloc, 1 << 28)?;
     let is_so = all_stay(&mut lru, count, stride)?;
-    Ok(are_first(&lru.accessed(LAST, 1 << 12)?, count, stride) && is_so)
+    Ok(are_first(&lru.accessed(LAST, 1 << 20)?, count, stride) && is_so)
 }
 
 // ---- rows
@@ -224,6 +224,7 @@ const PAGES: Rows = &[
     ("16 pages of one shard", Case::Pages(16, 256)),
     ("17 pages of one shard", Case::Pages(17, 256)),
     ("1,000 pages of one shard", Case::Pages(1_000, 256)),
+    ("131,072 pages of one shard", Case::Pages(1 << 17, 256)),
     ("no page", Case::Pages(0, 1)),
     ("1 page", Case::Pages(1, 1)),
     ("2 pages of two shards", Case::Pages(2, 1)),
@@ -231,6 +232,7 @@ const PAGES: Rows = &[
     ("16 pages of 16 shards", Case::Pages(16, 1)),
     ("17 pages of 17 shards", Case::Pages(17, 1)),
     ("1,000 pages of all shards", Case::Pages(1_000, 1)),
+    ("131,072 pages of all shards", Case::Pages(1 << 17, 1)),
 ];
 
 fn holds(alloc: Global, case: &Case) -> Result<bool, Error> {

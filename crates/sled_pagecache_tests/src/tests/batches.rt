@@ -2,15 +2,15 @@
 
 ghost use Rattle.std.specs.Prelude.{◌≡◌, true};
 
-use super::calls::{draws, replaces_by_pair};
-use super::failing::Trouble::{Never, Write};
-use super::openings::{Faulty, opened_with};
-use super::scripts::left_by;
-use super::steps::Outcome::At;
-use super::steps::Sight::{Empty, Pair};
-use super::steps::Step::{AddsFrom, Flushes, Gets};
-use super::steps::{Outcome, shows};
 use super::*;
+use sled_pagecache_testing::calls::{draws, replaces_by_pair};
+use sled_pagecache_testing::failing::Trouble::{Never, Write};
+use sled_pagecache_testing::openings::{Faulty, opened_with};
+use sled_pagecache_testing::scripts::left_by;
+use sled_pagecache_testing::steps::Outcome::At;
+use sled_pagecache_testing::steps::Sight::{Empty, Pair};
+use sled_pagecache_testing::steps::Step::{AddsFrom, Flushes, Gets};
+use sled_pagecache_testing::steps::{Outcome, shows};
 
 // How a batch ends: by its guard, by a call of the cache where no guard is held, or by a rule of the caller's own.
 #[derive(Clone, Copy, Debug, PartialEq, Eq)]

@@ -1,13 +1,13 @@
 // Each call of the cache on leaves and indexes of none to 2,000 pairs, over all keys and under a prefix, with short and long keys and
 // values, whose payloads are blobs or not; and on pages by the lengths of their ids.
 
-use super::calls::{adds, flushes, links, replaces};
-use super::scripts::left_by;
-use super::steps::Outcome::{At, Made, Unaccepted};
-use super::steps::Sight::{Absent, Empty, Pair};
-use super::steps::Step::{Adds, AddsFrom, Frees, Gets, Links, Replaces, Takes};
-use super::steps::{PAIR, shown, shows};
 use super::*;
+use sled_pagecache_testing::calls::{adds, flushes, links, replaces};
+use sled_pagecache_testing::scripts::left_by;
+use sled_pagecache_testing::steps::Outcome::{At, Made, Unaccepted};
+use sled_pagecache_testing::steps::Sight::{Absent, Empty, Pair};
+use sled_pagecache_testing::steps::Step::{Adds, AddsFrom, Frees, Gets, Links, Replaces, Takes};
+use sled_pagecache_testing::steps::{PAIR, shown, shows};
 
 const COUNTS: &[u32] = &[0, 1, 2, 3, 16, 17, 1_000, 2_000];
 

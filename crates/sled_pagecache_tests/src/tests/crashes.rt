@@ -1,22 +1,10 @@
-// Crashes of caches over the log in memory, and a caller of the law on them.
+// What a crash leaves of the log of a cache.
 
-ghost use Rattle.std.specs.Prelude.{◌≡◌, false, IfOk, IfSome};
-ghost use Rattle.sled_log.specs.Events.{IsFair};
-ghost use Rattle.sled_log.specs.MemLog.State.{state_of};
+ghost use Rattle.std.specs.Prelude.{IfSome};
 ghost use Rattle.sled_log.specs.contracts.memory.calls.MemLogLog.TheImpl as mem;
-ghost use Rattle.sled_log.specs.declared.memory.MemLog.{MemLog};
-ghost use Rattle.sled_pagecache.specs.Cache.{Cache as CacheModel, Represents};
-ghost use Rattle.sled_pagecache.specs.Calls.{StepOver, Steps};
-ghost use Rattle.sled_pagecache.specs.Logged.{Logged};
 ghost use Rattle.sled_pagecache.specs.Openings.{Crashed, Leaves};
-ghost use Rattle.sled_pagecache.specs.Reopening.{AreAfterPrefix, ReopensTo};
-ghost use Rattle.sled_pagecache.specs.State.{State};
-ghost use Rattle.sled_pagecache.specs.Step.{Outcome};
-ghost use Rattle.sled_pagecache.specs.declared.pagecache.handles.call.Answer.{Answer};
-ghost use Rattle.sled_pagecache.specs.declared.pagecache.handles.call.Call.{Call};
 
 use super::*;
-use sled_pagecache::laws::a_crash_reopens_to_a_prefix;
 
 // What a crash leaves of the log of a cache that keeps so many of the pending events. There is none while a batch is open, or where there
 // are fewer events.
@@ -31,19 +19,4 @@ pub(super) fn crashed(cache: PageCache<MemLog>, keeps: usize) -> Option<MemLog>
         return None;
     }
     Some(log.stop(keeps))
-}
-
-// The cache that is opened over what a crash leaves of the log of another, where so many of the pending events came: whatever call
-// it made last, the pages after a prefix of the changes.
-pub(super) fn reopen(
-    alloc: Global,
-    config: Config,
-    log: MemLog,
-    n: usize,
-) -> Result<PageCache<MemLog>, (Error, MemLog)>
-    requires { IsFair (state_of log).pending n }
-    ensures { (old new : CacheModel MemLog) (call : Call) (answer : Answer) (held : Logged) (s : State) → new.log ≡ log → Steps mem.ghosts old call answer new → Represents mem.ghosts old held s → s.fault ≡ false → (out : Outcome) × StepOver mem.ghosts old s call answer out × IfOk result (ReopensTo mem.ghosts (AreAfterPrefix held out.changes) config) }
-{
-    a_crash_reopens_to_a_prefix::<MemLog>();
-    PageCache::start(alloc, config, log.stop(n))
 }

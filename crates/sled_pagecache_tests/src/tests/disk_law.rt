@@ -11,16 +11,16 @@ ghost use Rattle.sled_pagecache.specs.State.{pid_of};
 ghost use Rattle.sled_pagecache.specs.declared.pagecache.handles.call.Answer.{Answer};
 ghost use Rattle.sled_pagecache.specs.declared.pagecache.handles.call.Call.{Call};
 
-use super::disks::Disked;
-use super::steps::Sight::Empty;
-use super::steps::Step::Gets;
-use super::steps::shows;
 use super::*;
 use sled_pagecache::crashes::{
     a_cache_is_flushed, reopen_after_a_crash, start_on_a_new_disk, what_was_flushed_is_there,
     writes_and_syncs,
 };
 use sled_pagecache::rows::calls_in_a_row_are_steps;
+use sled_pagecache_testing::disks::Disked;
+use sled_pagecache_testing::steps::Sight::Empty;
+use sled_pagecache_testing::steps::Step::Gets;
+use sled_pagecache_testing::steps::shows;
 
 // Frees a page in a batch that is sealed, whatever these calls answer: they are calls in a row.
 fn free_in_a_batch<L: Log>(

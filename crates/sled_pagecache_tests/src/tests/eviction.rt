@@ -1,12 +1,12 @@
 // Pages that leave memory, the one that was used longest ago first.
 
-use super::scripts::walks_at;
-use super::steps::Change::Set;
-use super::steps::Outcome::{At, Stale};
-use super::steps::Sight::{Empty, Holds};
-use super::steps::Step::{AddsFrom, Gets, Links, Reads};
-use super::steps::{PAIR, Step};
 use super::*;
+use sled_pagecache_testing::scripts::walks_at;
+use sled_pagecache_testing::steps::Change::Set;
+use sled_pagecache_testing::steps::Outcome::{At, Stale};
+use sled_pagecache_testing::steps::Sight::{Empty, Holds};
+use sled_pagecache_testing::steps::Step::{AddsFrom, Gets, Links, Reads};
+use sled_pagecache_testing::steps::{PAIR, Step};
 
 // The empty leaves 2 to 258. Each of them takes 25 bytes of the log, rounded 32, and 2 and 258 share a shard.
 const CROWD: Step = AddsFrom(2, 259);

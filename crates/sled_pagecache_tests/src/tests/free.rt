@@ -1,15 +1,17 @@
 // Pages that are freed and used again.
 
-use super::calls::frees;
-use super::failing::Trouble::{Room, Write};
-use super::openings::Ending::HandedOn;
-use super::openings::{Run, first_wrong_run};
-use super::scripts::{Script, first_wrong};
-use super::steps::Outcome::{At, Faulty, Gone, Refused, Stale};
-use super::steps::Sight::{Absent, Empty, Unwritten};
-use super::steps::Step::{Adds, AddsFrom, Crashes, Flushes, Frees, Gets, Links, Prints};
-use super::steps::{Outcome, PAIR, Step, shows};
 use super::*;
+use sled_pagecache_testing::calls::frees;
+use sled_pagecache_testing::failing::Trouble::{Room, Write};
+use sled_pagecache_testing::openings::Ending::HandedOn;
+use sled_pagecache_testing::openings::{Run, first_wrong_run};
+use sled_pagecache_testing::scripts::{Script, first_wrong};
+use sled_pagecache_testing::steps::Outcome::{At, Faulty, Gone, Refused, Stale};
+use sled_pagecache_testing::steps::Sight::{Absent, Empty, Unwritten};
+use sled_pagecache_testing::steps::Step::{
+    Adds, AddsFrom, Crashes, Flushes, Frees, Gets, Links, Prints,
+};
+use sled_pagecache_testing::steps::{Outcome, PAIR, Step, shows};
 
 const SCRIPTS: &[Script] = &[
     (

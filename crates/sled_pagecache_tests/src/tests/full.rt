@@ -1,13 +1,13 @@
 // A log that has no room for a message, and what the refusal leaves in memory.
 
-use super::failing::Trouble::Room;
-use super::openings::Ending::{HandedOn, Read};
-use super::openings::{Ending, lasts};
-use super::steps::Outcome::{At, Refused};
-use super::steps::Sight::{Absent, Holds};
-use super::steps::Step::{Adds, AddsNone, Gets, Links, Replaces, Unopened};
-use super::steps::{Outcome, PAIR, Step};
 use super::*;
+use sled_pagecache_testing::failing::Trouble::Room;
+use sled_pagecache_testing::openings::Ending::{HandedOn, Read};
+use sled_pagecache_testing::openings::{Ending, lasts};
+use sled_pagecache_testing::steps::Outcome::{At, Refused};
+use sled_pagecache_testing::steps::Sight::{Absent, Holds};
+use sled_pagecache_testing::steps::Step::{Adds, AddsNone, Gets, Links, Replaces, Unopened};
+use sled_pagecache_testing::steps::{Outcome, PAIR, Step};
 
 const FULL: Outcome = Refused(Why::LogFull);
 

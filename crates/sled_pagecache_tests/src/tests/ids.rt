@@ -3,12 +3,12 @@
 mod runs;
 
 use self::runs::RUNS;
-use super::calls::{adds, draws};
-use super::failing::Trouble::Write;
-use super::openings::Ending::Crash;
-use super::openings::{Faulty, ended, first_wrong_run, opened_with};
-use super::steps::Outcome;
 use super::*;
+use sled_pagecache_testing::calls::{adds, draws};
+use sled_pagecache_testing::failing::Trouble::Write;
+use sled_pagecache_testing::openings::Ending::Crash;
+use sled_pagecache_testing::openings::{Faulty, ended, first_wrong_run, opened_with};
+use sled_pagecache_testing::steps::Outcome;
 
 #[test]
 fn ids_are_above_those_of_earlier_openings(rt: HostRuntime) {

@@ -1,11 +1,11 @@
 // Swaps of roots in a map of 100,000 names, which is read from one payload that no cache wrote.
 
-use super::calls::{root_of, swaps};
-use super::scripts::walks_over;
-use super::steps::Outcome::{Done, Is};
-use super::steps::Step;
-use super::steps::Step::{Crashes, Finds, Flushes, Has, Lacks, Swaps, Takes};
 use super::*;
+use sled_pagecache_testing::calls::{root_of, swaps};
+use sled_pagecache_testing::scripts::walks_over;
+use sled_pagecache_testing::steps::Outcome::{Done, Is};
+use sled_pagecache_testing::steps::Step;
+use sled_pagecache_testing::steps::Step::{Crashes, Finds, Flushes, Has, Lacks, Swaps, Takes};
 
 const NAMES: u32 = 100_000;
 

@@ -1,10 +1,11 @@
 // Pages as a log says them, and the table that keeps pages by their ids.
 
-ghost use Rattle.std.specs.Prelude.{◌≡◌, ◌+◌, ◌<◌, ◌≤◌, length, IfOk};
+ghost use Rattle.std.specs.Prelude.{◌≡◌, ◌≤◌, length};
 ghost use Rattle.sled_pagecache.specs.Limits.{most_pages};
 
 use super::*;
 use sled_pagecache::{CacheInfo, Page, PageTable, split_fanout};
+use sled_pagecache_testing::tables::{lsn_at, page, table_of};
 use std::mem::size_of;
 
 // ---- a page of some messages, and a free one
@@ -120,39 +121,6 @@ fn a_page_reports_its_chain_and_is_said_by_it(rt: HostRuntime) {
 }
 
 // ---- a table of free pages, each with the lsn of its id
-
-fn page(alloc: Global, lsn: Lsn) -> Result<Page, AllocError> {
-    Page::from_state(alloc, &PageState::Free(lsn, DiskPtr::Inline(0)))
-}
-
-// Puts a page in at an id, a second time where memory was wanting the first time.
-fn put_in(table: &mut PageTable, pid: PageId, page: Page) -> Result<(), AllocError>
-    requires next { pid ≡ length table.old.pages }
-    requires few { pid < most_pages }
-    ensures { IfOk result (λ _. length table.new.pages ≡ pid + 1) }
-{
-    let Err((page, _)) = table.insert(pid, page) else {
-        return Ok(());
-    };
-    table.insert(pid, page).map_err(|refused| refused.1)
-}
-
-// A table of so many pages.
-pub(super) fn table_of(alloc: Global, count: u64) -> Result<PageTable, AllocError>
-    requires { count ≤ most_pages }
-    ensures { IfOk result (λ table. length table.pages ≡ count) }
-{
-    let mut table = PageTable::default(alloc);
-    for pid in 0..count {
-        put_in(&mut table, pid, page(alloc, pid as Lsn)?)?;
-    }
-    Ok(table)
-}
-
-// The lsn of the page at an id, if there is one.
-pub(super) fn lsn_at(table: &PageTable, pid: PageId) -> Option<Lsn> {
-    table.get(pid).map(|page| page.last_lsn())
-}
 
 // Puts a page in the place of another, where there is one.
 fn put(table: &mut PageTable, pid: PageId, page: Page) {

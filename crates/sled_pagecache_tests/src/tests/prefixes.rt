@@ -1,12 +1,12 @@
 // Every fair stop of a list of calls, opened again.
 
-use super::scripts::walks;
-use super::steps::Change::Set;
-use super::steps::Outcome::At;
-use super::steps::Sight::{Absent, Empty, Pair};
-use super::steps::Step::{Adds, Crashes, Gets, Links, ReplacesByPair};
-use super::steps::{Sight, Step};
 use super::*;
+use sled_pagecache_testing::scripts::walks;
+use sled_pagecache_testing::steps::Change::Set;
+use sled_pagecache_testing::steps::Outcome::At;
+use sled_pagecache_testing::steps::Sight::{Absent, Empty, Pair};
+use sled_pagecache_testing::steps::Step::{Adds, Crashes, Gets, Links, ReplacesByPair};
+use sled_pagecache_testing::steps::{Sight, Step};
 
 // Five changes behind the flushed system pages: two leaves, two links on the first, and a replacement of the second.
 const LEAF: Step = Adds(2, 1);

@@ -1,13 +1,13 @@
 // Each read of a log failing in turn.
 
-use super::failing::Trouble::{Never, Read};
-use super::openings::Ending::HandedOn;
-use super::openings::{Opening, lasts};
-use super::steps::Outcome::Unread as Refused;
-use super::steps::Sight::{Holds, Unread};
-use super::steps::Step;
-use super::steps::Step::{Adds, Flushes, Gets, LinksFrom, Unopened};
 use super::*;
+use sled_pagecache_testing::failing::Trouble::{Never, Read};
+use sled_pagecache_testing::openings::Ending::HandedOn;
+use sled_pagecache_testing::openings::{Opening, lasts};
+use sled_pagecache_testing::steps::Outcome::Unread as Refused;
+use sled_pagecache_testing::steps::Sight::{Holds, Unread};
+use sled_pagecache_testing::steps::Step;
+use sled_pagecache_testing::steps::Step::{Adds, Flushes, Gets, LinksFrom, Unopened};
 
 // Page 2, of a leaf and three links, and page 3, of an empty leaf, both flushed.
 const TWO_PAGES: Opening<'static> = (

@@ -1,15 +1,15 @@
 // Caches that are opened over a log that another wrote.
 
-use super::scripts::{Script, first_wrong, first_wrong_at, walks};
-use super::steps::Change::{Del, Set};
-use super::steps::Outcome::{At, Stale};
-use super::steps::Sight::{Absent, Empty, Holds, Pair};
-use super::steps::Step::{
+use super::*;
+use sled_pagecache_testing::scripts::{Script, first_wrong, first_wrong_at, walks};
+use sled_pagecache_testing::steps::Change::{Del, Set};
+use sled_pagecache_testing::steps::Outcome::{At, Stale};
+use sled_pagecache_testing::steps::Sight::{Absent, Empty, Holds, Pair};
+use sled_pagecache_testing::steps::Step::{
     Adds, AddsFrom, Crashes, Flushes, Frees, Gets, Links, LinksFrom, Prints, Reads, Recovered,
     Reopens, Takes, Writes,
 };
-use super::steps::{Change, PAIR, Step, shown};
-use super::*;
+use sled_pagecache_testing::steps::{Change, PAIR, Step, shown};
 
 // A page and a link on it.
 const ADDS: Step = Adds(2, 1);

@@ -1,18 +1,16 @@
 // Named roots.
 
-use super::calls::{names_and_stamp, root_of, swaps};
-use super::failing::Trouble::Room;
-use super::openings::Ending::HandedOn;
-use super::openings::{Run, first_wrong_run};
-use super::scripts::{Script, first_wrong};
-use super::steps::Outcome::{Done, Is, Refused};
-use super::steps::Step::{Crashes, Finds, Flushes, Has, Lacks, Swaps, Takes};
-use super::steps::{Outcome, Step};
 use super::*;
+use sled_pagecache_testing::calls::{names_and_stamp, root_of, swaps};
+use sled_pagecache_testing::failing::Trouble::Room;
+use sled_pagecache_testing::openings::Ending::HandedOn;
+use sled_pagecache_testing::openings::{Run, first_wrong_run};
+use sled_pagecache_testing::scripts::{Script, first_wrong};
+use sled_pagecache_testing::steps::Outcome::{Done, Is, Refused};
+use sled_pagecache_testing::steps::Step::{Crashes, Finds, Flushes, Has, Lacks, Swaps, Takes};
+use sled_pagecache_testing::steps::{LONG, Outcome, Step};
 
 pub(super) const SHORT: &[u8] = &[b's'; 22];
-
-pub(super) const LONG: &[u8] = &[b'l'; 23];
 
 pub(super) const LONGER: &[u8] = &[b'm'; 1000];
 

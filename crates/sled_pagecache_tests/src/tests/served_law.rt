@@ -8,9 +8,9 @@ ghost use Rattle.sled_pagecache.specs.State.{Token};
 ghost use Rattle.sled_pagecache.specs.declared.pagecache.handles.call.Answer.TheVariants.{Allocated, Flushed};
 ghost use Rattle.sled_pagecache.specs.declared.pagecache.handles.call.Call.TheVariants.{Allocate, Flush};
 
-use super::disks::{disk_of, new_disk, opened_on};
 use super::*;
 use sled_disk::{CallersFile, StagedDisk, Task};
+use sled_pagecache_testing::disks::{disk_of, new_disk, opened_on};
 
 type Staged<F> = PageCache<DiskLog<StagedDisk<F>>>;
 

@@ -1,16 +1,16 @@
 // Tokens that no call gave, of stamps that a page never had or had in an earlier opening, and ids of every size.
 
-use super::disks::Part::{Again, Plain};
-use super::disks::{Disked, behind, new_disk};
-use super::scripts::opened_over;
-use super::steps::Change::Set;
-use super::steps::Outcome::{At, Done, Gone, Id, Is, Refused, Stale, Unaccepted};
-use super::steps::Sight::{Absent, Pair, Reserved};
-use super::steps::Step::{
+use super::*;
+use sled_pagecache_testing::disks::Part::{Again, Plain};
+use sled_pagecache_testing::disks::{Disked, behind, new_disk};
+use sled_pagecache_testing::scripts::opened_over;
+use sled_pagecache_testing::steps::Change::Set;
+use sled_pagecache_testing::steps::Outcome::{At, Done, Gone, Id, Is, Refused, Stale, Unaccepted};
+use sled_pagecache_testing::steps::Sight::{Absent, Pair, Reserved};
+use sled_pagecache_testing::steps::Step::{
     Adds, Finds, Flushes, Frees, Gets, Links, Opens, ReplacesByPair, Swaps, Takes,
 };
-use super::steps::{Outcome, PAIR, Sight, Step, shown};
-use super::*;
+use sled_pagecache_testing::steps::{Outcome, PAIR, Sight, Step, shown};
 
 // A leaf that gets to stamp 4, a page that is free, and a tree, whose leaf is page 4 and whose index is page 5.
 const WRITTEN: &[Step] = &[

@@ -1,17 +1,17 @@
 // Trees that are opened by their names.
 
-use super::failing::Trouble::{Never, Room, Write};
-use super::openings::Ending::HandedOn;
-use super::openings::{Run, first_wrong_run};
-use super::roots::{LONG, LONGER, SHORT};
-use super::scripts::{Script, first_wrong};
-use super::steps::Outcome::{At, Done, Faulty, Id, Refused};
-use super::steps::Sight::{Absent, Empty, Leads};
-use super::steps::Step;
-use super::steps::Step::{
+use super::roots::{LONGER, SHORT};
+use super::*;
+use sled_pagecache_testing::failing::Trouble::{Never, Room, Write};
+use sled_pagecache_testing::openings::Ending::HandedOn;
+use sled_pagecache_testing::openings::{Run, first_wrong_run};
+use sled_pagecache_testing::scripts::{Script, first_wrong};
+use sled_pagecache_testing::steps::Outcome::{At, Done, Faulty, Id, Refused};
+use sled_pagecache_testing::steps::Sight::{Absent, Empty, Leads};
+use sled_pagecache_testing::steps::Step::{
     Adds, AddsFrom, Crashes, Finds, Flushes, Frees, Gets, Has, Lacks, Opens, Swaps, Takes,
 };
-use super::*;
+use sled_pagecache_testing::steps::{LONG, Step};
 
 // The system pages, an empty leaf, an index over it, and a name of one byte.
 const TREE: u64 = 35 + 25 + 27 + 20;

@@ -1,15 +1,15 @@
 // Each write to a log failing in turn.
 
-use super::failing::Trouble::{Never, Write};
-use super::openings::Ending::{Crash, HandedOn};
-use super::openings::{Opening, lasts};
-use super::steps::Outcome::{At, Faulty};
-use super::steps::Sight::{Absent, Empty, Pair, Unwritten};
-use super::steps::Step::{
+use super::*;
+use sled_pagecache_testing::failing::Trouble::{Never, Write};
+use sled_pagecache_testing::openings::Ending::{Crash, HandedOn};
+use sled_pagecache_testing::openings::{Opening, lasts};
+use sled_pagecache_testing::steps::Outcome::{At, Faulty};
+use sled_pagecache_testing::steps::Sight::{Absent, Empty, Pair, Unwritten};
+use sled_pagecache_testing::steps::Step::{
     Adds, AddsNone, Faults, Gets, Links, Recovered, Replaces, Takes, Unopened, Writes,
 };
-use super::steps::{PAIR, Step};
-use super::*;
+use sled_pagecache_testing::steps::{PAIR, Step};
 
 // What is left where the crash keeps nothing of what was pending.
 const LOST_ALL: Opening<'static> = (10, Never, &[Recovered(false), Gets(2, Absent)], HandedOn);

@@ -1,7 +1,7 @@
 // Lists of random calls, whose answers are those of a plain sorted map. The log is opened again in between.
 
+use super::lengths::Length;
 use super::pairs::{Pair, Shape, finds_all, gets, gets_all, inserts, new_pairs, removes};
-use super::random::{Length, Random};
 use super::swaps::{Near, Old, Swap, swaps};
 use super::*;
 

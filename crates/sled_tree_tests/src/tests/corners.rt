@@ -3,9 +3,9 @@
 //
 // A key or a value above the limit has 2^31 bytes, and none is made here.
 
+use super::lengths::Length;
 use super::ordered::{agrees_between, sums_agree};
 use super::pairs::{Pair, Shape, finds, gets, gets_all, inserts, new_pair, removes};
-use super::random::Length;
 use super::*;
 
 // In which order the keys are set at first.

@@ -1,7 +1,7 @@
 // A map that is dropped, the pages that it had, and the names of the others.
 
-use super::pairs::{Pair, Shape, gets_all, inserts, new_pair};
-use super::random::Length;
+use super::lengths::Length;
+use super::pairs::{Pair, Shape, finds as finds_kept, gets_all, inserts, new_pair};
 use super::*;
 
 const SHORT: Shape = Shape {
@@ -66,31 +66,35 @@ fn are_used_again(alloc: Global, trees: &mut Trees<MemLog>, count: (u64, Shape))
         && pages_in(trees) == before
 }
 
-// The same beside a map that stays.
-fn are_used_beside(alloc: Global, trees: &mut Trees<MemLog>, count: (u64, Shape)) -> bool {
-    match filled(alloc, trees, 0, count) {
-        Some(kept) => {
-            is_filled(alloc, trees, 1, count)
-                && are_used_again(alloc, trees, count)
-                && gets_all(alloc, trees, &kept, count.1, count.0)
+// The same beside a map that stays. The log is opened again before the one is dropped, or not.
+fn are_used_in(alloc: Global, config: Config, count: (u64, Shape), is_again: bool) -> Option<bool> {
+    let limits = Limits::new(4, 4);
+    let mut trees = opened(alloc, config, MemLog::new(alloc, 512, 16), limits)?;
+    let mut kept = filled(alloc, &mut trees, 0, count)?;
+    let is_made = is_filled(alloc, &mut trees, 1, count);
+    if is_again {
+        trees = opened(alloc, config, log_of(trees)?, limits)?;
+        if !finds_kept(&mut trees, &mut kept) {
+            return None;
         }
-        None => false,
     }
-}
-
-fn are_used_in(alloc: Global, config: Config, count: (u64, Shape)) -> bool {
-    let log = MemLog::new(alloc, 512, 16);
-    match opened(alloc, config, log, Limits::new(4, 4)) {
-        Some(mut trees) => are_used_beside(alloc, &mut trees, count),
-        None => false,
-    }
+    Some(
+        is_made
+            && are_used_again(alloc, &mut trees, count)
+            && gets_all(alloc, &mut trees, &kept, count.1, count.0),
+    )
 }
 
 #[test]
 fn the_pages_of_a_dropped_map_are_used_again(rt: HostRuntime) {
     for count in COUNTS {
-        for config in [CONFIG, SMALL] {
-            assert!(rt; are_used_in(rt.alloc(), config, *count), "{}", count.0);
+        for (config, is_again) in [(CONFIG, false), (CONFIG, true), (SMALL, false)] {
+            assert_eq!(rt;
+                are_used_in(rt.alloc(), config, *count, is_again),
+                Some(true),
+                "{} {is_again}",
+                count.0
+            );
         }
     }
 }

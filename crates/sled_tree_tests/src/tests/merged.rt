@@ -1,8 +1,8 @@
 // A map whose pairs are taken out, and the pages that it takes then.
 
+use super::lengths::Length;
+use super::pages::used;
 use super::pairs::{Pair, Shape, gets_all, inserts, new_pair, reached_in, removes};
-use super::random::Length;
-use super::reached::{Reached, used};
 use super::*;
 
 const SHAPE: Shape = Shape {

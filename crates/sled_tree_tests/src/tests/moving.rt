@@ -1,9 +1,9 @@
 // Maps that are walked piece by piece, while pairs come and go between two pieces.
 
+use super::lengths::bytes_of;
 use super::ordered::{bound_of, is_piece, is_within};
 use super::pairs::{Pair, Plain, Shape, inserts, new_pair, removes};
 use super::pieces::{LONG, MIXED, SHORT, new_maps};
-use super::random::{Random, bytes_of};
 use super::*;
 use std::ops::Bound;
 
@@ -17,6 +17,8 @@ struct Moving {
     shape: Shape,
     limits: (usize, usize),
     is_small: bool,
+    // whether all is in one batch
+    is_batch: bool,
     // the numbers of the bounds
     between: (u64, u64),
     // so many of the numbers that don't stay are set at first
@@ -32,6 +34,7 @@ const MOVING: Moving = Moving {
     shape: SHORT,
     limits: (4, 4),
     is_small: false,
+    is_batch: false,
     between: (0, 0),
     others: 20,
     calls: 3,
@@ -43,6 +46,12 @@ const MOVINGS: &[Moving] = &[
     Moving {
         seed: 2,
         calls: 20,
+        ..MOVING
+    },
+    Moving {
+        seed: 13,
+        calls: 20,
+        is_batch: true,
         ..MOVING
     },
     // most calls take a key out, so leaves go into their neighbours
@@ -252,6 +261,9 @@ fn walks(alloc: Global, moving: &Moving) -> Option<bool> {
     let mut random = Random::new(moving.seed);
     let mut trees = new_maps(alloc, moving.limits, moving.is_small)?;
     let mut pair = new_pair(alloc, &mut trees, b'p')?;
+    if moving.is_batch {
+        trees.pin().ok()?;
+    }
     let (kept, unmet) = sets_kept(alloc, &mut trees, &mut pair, moving)?;
     let others = (moving.others, 0);
     let is_set = calls_all(

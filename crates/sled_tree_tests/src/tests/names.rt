@@ -1,6 +1,6 @@
 // Maps of few names and of many, of short names and long ones: each is there, by its own token, once it was opened and until it is dropped.
 
-use super::random::{Length, bytes_of};
+use super::lengths::{Length, bytes_of};
 use super::*;
 
 // How many names, and how long each.

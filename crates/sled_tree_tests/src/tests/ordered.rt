@@ -1,7 +1,7 @@
 // The pairs in the order of their keys, as a plain sorted map has them.
 
+use super::lengths::{Length, bytes_of};
 use super::pairs::{Pair, Plain, Shape, inserts, new_pair, removes};
-use super::random::{Length, Random, bytes_of};
 use super::*;
 use std::ops::Bound;
 

@@ -1,7 +1,6 @@
 // A map beside a plain sorted map, by which each answer is judged.
 
-use super::random::{Length, bytes_of};
-use super::reached::{Reached, pages_of};
+use super::lengths::{Length, bytes_of};
 use super::*;
 
 pub(super) type Plain = BTreeMap<IVec, IVec>;

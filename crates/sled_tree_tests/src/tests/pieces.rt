@@ -1,8 +1,8 @@
 // Whole maps that are walked piece by piece, and pair by pair, beside a plain sorted map.
 
+use super::lengths::Length;
 use super::ordered::{bound_of, is_within, sums_agree};
 use super::pairs::{Pair, Plain, Shape, inserts, new_pair};
-use super::random::Length;
 use super::*;
 use std::ops::Bound;
 
@@ -95,6 +95,13 @@ const STILLS: &[Still] = &[
         end: 6000,
         limits: (32, 128),
         keys: &[1, 2998, 5998],
+        ..STILL
+    },
+    // one leaf
+    Still {
+        end: 2000,
+        limits: (65_536, 65_536),
+        keys: &[0, 997, 1998],
         ..STILL
     },
 ];
@@ -226,16 +233,18 @@ fn stepped(alloc: Global, trees: &mut Trees<MemLog>, pair: &Pair, is_down: bool)
     None
 }
 
+// Whether the steps are right, and the calls that have no bounds, all in a batch.
 fn steps_so(alloc: Global, still: &Still, is_down: bool) -> Option<bool> {
     let mut trees = new_maps(alloc, still.limits, still.is_small)?;
     let mut pair = new_pair(alloc, &mut trees, b'p')?;
     let is_filled = fills(alloc, &mut trees, &mut pair, still);
+    trees.pin().ok()?;
     let mut found = stepped(alloc, &mut trees, &pair, is_down)?;
     if is_down {
         found.reverse();
     }
     let all = Bound::Unbounded;
-    Some(is_filled && are_all(&found, &pair.plain, &all, &all))
+    Some(is_filled && sums_agree(&mut trees, &pair) && are_all(&found, &pair.plain, &all, &all))
 }
 
 #[test]

@@ -1,8 +1,8 @@
 // How many leaves and indices maps have: what is said of limits, and of what removals merge.
 
-use super::pairs::{Pair, Shape, gets_all, inserts, new_pair, reached_in, removes};
-use super::random::Length;
-use super::reached::used;
+use super::lengths::Length;
+use super::pages::used;
+use super::pairs::{Pair, Shape, finds, gets_all, inserts, new_pair, reached_in, removes};
 use super::swaps::{Old, Swap, swaps};
 use super::*;
 
@@ -11,7 +11,7 @@ const SHAPE: Shape = Shape {
     values: Length::Of(3),
 };
 
-/// So many pairs are set by keys that rise, and then those of some numbers are taken out, each second one by a swap.
+/// So many pairs are set by keys that rise, and then those of some numbers are taken out, each second one by swaps.
 ///
 /// Keys that rise leave each leaf full, and each index, and the last leaf has one pair more before it is split.
 #[derive(Clone, Copy, Debug)]
@@ -184,11 +184,13 @@ const ROWS: &[Row] = &[
     },
 ];
 
-// The maps of a new cache, with the limits of a row.
-fn new_maps(alloc: Global, row: &Row) -> Option<Trees<MemLog>> {
-    let log = MemLog::new(alloc, 512, 16);
+// The maps of a log, with the limits of a row.
+fn new_maps(alloc: Global, row: &Row, log: MemLog) -> Option<Trees<MemLog>> {
     if row.limits != (0, 0) {
         return opened(alloc, CONFIG, log, Limits::new(row.limits.0, row.limits.1));
+    }
+    if log.batch_open() {
+        return None;
     }
     match PageCache::start(alloc, CONFIG, log) {
         Ok(cache) => Some(Trees::new(alloc, cache)),
@@ -196,9 +198,27 @@ fn new_maps(alloc: Global, row: &Row) -> Option<Trees<MemLog>> {
     }
 }
 
+// Whether the key is swapped from what it has to the value of that number, or taken out.
+fn is_swapped(
+    alloc: Global,
+    trees: &mut Trees<MemLog>,
+    pair: &mut Pair,
+    number: u64,
+    new: Option<u64>,
+) -> bool {
+    let old = Old::Present;
+    swaps(alloc, trees, pair, SHAPE, number, Swap { old, new })
+}
+
+// Whether the keys are set, by a swap where the number is odd.
 fn fills(alloc: Global, trees: &mut Trees<MemLog>, pair: &mut Pair, count: u64) -> bool {
     for number in 0..count {
-        if !inserts(alloc, trees, pair, SHAPE, number, number) {
+        let is_set = if number % 2 == 0 {
+            inserts(alloc, trees, pair, SHAPE, number, number)
+        } else {
+            is_swapped(alloc, trees, pair, number, Some(number))
+        };
+        if !is_set {
             return false;
         }
     }
@@ -210,11 +230,7 @@ fn takes(alloc: Global, trees: &mut Trees<MemLog>, pair: &mut Pair, number: u64)
     if number % 2 == 0 {
         return removes(alloc, trees, pair, SHAPE, number);
     }
-    let swap = Swap {
-        old: Old::Present,
-        new: None,
-    };
-    swaps(alloc, trees, pair, SHAPE, number, swap)
+    is_swapped(alloc, trees, pair, number, None)
 }
 
 fn takes_all(
@@ -233,14 +249,41 @@ fn takes_all(
     true
 }
 
+/// In how many parts a row is made.
+#[derive(Clone, Copy, Debug, PartialEq)]
+enum Way {
+    Once,
+    Batch,
+    // the log is opened again before pairs are taken out
+    Again,
+}
+
+const WAYS: &[Way] = &[Way::Once, Way::Batch, Way::Again];
+
+// The maps and the map behind the pairs that are set, if these are set as they should be.
+fn filled(alloc: Global, row: &Row, way: Way) -> Option<(Trees<MemLog>, Pair)> {
+    let mut trees = new_maps(alloc, row, MemLog::new(alloc, 512, 16))?;
+    let mut pair = new_pair(alloc, &mut trees, 0)?;
+    if way == Way::Batch {
+        trees.pin().ok()?;
+    }
+    if !fills(alloc, &mut trees, &mut pair, row.count) {
+        return None;
+    }
+    if way == Way::Again {
+        trees = new_maps(alloc, row, log_of(trees)?)?;
+        finds(&mut trees, &mut pair).then_some(())?;
+    }
+    Some((trees, pair))
+}
+
 // How many leaves and indices there are in the end, if all answers are those of a sorted map, and all other pages are free but the cache's
 // own two.
-fn left(alloc: Global, row: &Row) -> Option<(usize, usize)> {
-    let mut trees = new_maps(alloc, row)?;
-    let mut pair = new_pair(alloc, &mut trees, 0)?;
-    let is_so = fills(alloc, &mut trees, &mut pair, row.count)
-        && takes_all(alloc, &mut trees, &mut pair, row.taken)
-        && gets_all(alloc, &mut trees, &pair, SHAPE, row.count);
+fn left(alloc: Global, row: &Row, way: Way) -> Option<(usize, usize)> {
+    let (mut trees, mut pair) = filled(alloc, row, way)?;
+    let is_so = takes_all(alloc, &mut trees, &mut pair, row.taken)
+        && gets_all(alloc, &mut trees, &pair, SHAPE, row.count)
+        && (way != Way::Batch || trees.seal().is_ok());
     let reached = reached_in(alloc, &mut trees, &pair)?;
     let pages = reached.leaves.saturating_add(reached.indices);
     (is_so && used(&trees) == pages.saturating_add(2)).then_some((reached.leaves, reached.indices))
@@ -249,10 +292,12 @@ fn left(alloc: Global, row: &Row) -> Option<(usize, usize)> {
 #[test]
 fn leaves_and_indices_are_as_many_as_is_said(rt: HostRuntime) {
     for row in ROWS {
-        assert_eq!(rt;
-            left(rt.alloc(), row),
-            Some((row.leaves, row.indices)),
-            "{row:?}"
-        );
+        for way in WAYS {
+            assert_eq!(rt;
+                left(rt.alloc(), row, *way),
+                Some((row.leaves, row.indices)),
+                "{way:?} {row:?}"
+            );
+        }
     }
 }

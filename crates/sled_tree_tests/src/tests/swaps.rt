@@ -1,7 +1,7 @@
 // Values that are set or taken out where another one stands, beside a plain sorted map.
 
+use super::lengths::bytes_of;
 use super::pairs::{Pair, Shape};
-use super::random::bytes_of;
 use super::*;
 
 /// Which value is to be there before.

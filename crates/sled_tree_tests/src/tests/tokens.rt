@@ -3,8 +3,8 @@
 // Such a call may read or change another map. So a test of changing calls asks for answers, for names that stay, and for maps that can be
 // called, and not for what is in them.
 
+use super::lengths::Length;
 use super::pairs::{Pair, Shape, gets_all, inserts, new_pair};
-use super::random::{Length, Random};
 use super::*;
 use std::ops::Bound;
 

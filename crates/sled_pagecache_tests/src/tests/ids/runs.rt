@@ -1,13 +1,13 @@
 // Runs of openings: each with its interval, what goes wrong, what it shows, and how it ends.
 
 use super::*;
-use crate::tests::failing::Trouble::{Full, Never, Write};
-use crate::tests::openings::Ending::{Crash, HandedOn};
-use crate::tests::openings::Run;
-use crate::tests::steps::Outcome::{Faulty, Refused};
-use crate::tests::steps::Sight::{Absent, Empty};
-use crate::tests::steps::Step;
-use crate::tests::steps::Step::{
+use sled_pagecache_testing::failing::Trouble::{Full, Never, Write};
+use sled_pagecache_testing::openings::Ending::{Crash, HandedOn};
+use sled_pagecache_testing::openings::Run;
+use sled_pagecache_testing::steps::Outcome::{Faulty, Refused};
+use sled_pagecache_testing::steps::Sight::{Absent, Empty};
+use sled_pagecache_testing::steps::Step;
+use sled_pagecache_testing::steps::Step::{
     Adds, AddsNone, Counts, Gets, Gives, Hides, Refuses, Takes, Writes,
 };
 

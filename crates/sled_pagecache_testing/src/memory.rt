@@ -1,0 +1,40 @@
+//! Steps that are made a second time where an allocation failed.
+
+use crate::caches::{CONFIG, Cache, opening};
+use crate::scripts::opened_over;
+use crate::steps::{Step, shows, shows_page};
+use sled_base::Error;
+use sled_log::MemLog;
+use std::alloc::Global;
+
+/// A cache over the log, which is opened a second time where an allocation failed.
+pub fn opens(alloc: Global, log: MemLog) -> Option<Cache> {
+    match opening(alloc, CONFIG, log) {
+        Ok(cache) => Some(cache),
+        Err((Error::OutOfMemory, log)) => opened_over(alloc, CONFIG, log),
+        Err(_) => None,
+    }
+}
+
+/// Whether a step shows what it should. It is made a second time where an allocation failed.
+pub fn makes(alloc: Global, cache: &mut Cache, step: &Step) -> bool {
+    match shows_page(alloc, cache, step) {
+        Some(is_so) => is_so,
+        None => shows(alloc, cache, step),
+    }
+}
+
+/// How many steps show what they should, before the first that doesn't.
+pub fn made(alloc: Global, cache: &mut Cache, steps: &[Step]) -> usize {
+    for (done, step) in steps.iter().enumerate() {
+        if !makes(alloc, cache, step) {
+            return done;
+        }
+    }
+    steps.len()
+}
+
+/// A new cache. No message is due: a move that is added to a replacement is passed over where an allocation failed.
+pub fn new_cache(alloc: Global) -> Option<Cache> {
+    opens(alloc, MemLog::new(alloc, 512, 0))
+}
