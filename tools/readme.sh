@@ -1,7 +1,7 @@
 #!/bin/sh
-# Compares README.md, examples/README.md, docs/SCRIPT.md and docs/API.md with the code, word for word, and prints what differs:
+# Compares README.md, docs/GUIDE.md, examples/README.md, docs/SCRIPT.md and docs/API.md with the code, word for word, and prints what differs:
 #
-# - each block of Rattle of README stands at the head of a file of a folder readme, of crates/sled_script_tests/src/tests or
+# - each block of Rattle of README and the guide stands at the head of a file of a folder readme, of crates/sled_script_tests/src/tests or
 #   crates/sled_shared_tests/src, which is named as its function is and has a test after it, and each of these files has its block;
 # - each block of Rust of README that uses the crate dilluvas, of C and of Python is a program of bindings, which bindings/check.sh runs;
 # - each session of the program `./sledpc` in README and docs/SCRIPT.md is one that the gate makes. Over a log in memory it stands in the
@@ -38,6 +38,7 @@ differ() {
 
 # Cuts a page into files in a folder of its own, $cut, in order: NUMBER.rust, NUMBER.antt, NUMBER.c and NUMBER.python for a block of that
 # language, NUMBER.COUNT.command for a command of a session and NUMBER.COUNT.replies for what stands below it. The page is $page from then on.
+# Where there are more pages, they are cut as if they were one.
 cut_page() {
     page=$1
     cut=$work/$(echo "${page%.md}" | tr / _)
@@ -52,7 +53,7 @@ cut_page() {
         count > 0 { print > sprintf("%s/%03d.%03d.replies", work, number, count); next }
         { print page ": a session begins with no command: " $0 > (work "/faults") }
         END { if (inside) print page ": a block has no end" > (work "/faults") }
-    ' "$page"
+    ' "$@"
 }
 
 compare_rust() {
@@ -312,7 +313,7 @@ compare_calls() {
 
 rows_of memory
 rows_of file
-cut_page README.md
+cut_page README.md docs/GUIDE.md
 compare_rust
 compare_bindings
 compare_sessions
