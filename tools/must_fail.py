@@ -178,11 +178,11 @@ def yield_to_others():
 
 
 def wait_until_proved(crate, said):
-    """Comes back once a run of `rt ci` that writes into this file has said that the crate is proved."""
-    line = f"rt: {crate.name} proved"
+    """Comes back once a run of `rt ci` that writes into this file has said that the crate is proved, or that an earlier run has proved it."""
+    proved, kept = f"rt: {crate.name} proved", f"rt: {crate.name} is kept: "
     while True:
         with open(said, encoding="utf-8", errors="replace") as lines:
-            if line in lines.read().split("\n"):
+            if any(line == proved or line.startswith(kept) for line in lines.read().split("\n")):
                 return
         time.sleep(2)
 
