@@ -308,7 +308,7 @@ static void each_status_has_a_text(void) {
     size_t needed, length;
     IS(dilluvas_text(12345, unknown, sizeof unknown, &length), DILLUVAS_OK);
     for (dilluvas_status status = 0; status < 256; status++) {
-        bool known = status <= 12 || (status >= 16 && status <= 20) || (status >= 32 && status <= 34) || (status >= 101 && status <= 112)
+        bool known = status <= 12 || (status >= 16 && status <= 20) || (status >= 32 && status <= 35) || (status >= 101 && status <= 112)
                      || (status >= 201 && status <= 204);
         IS(dilluvas_text(status, text, sizeof text, &needed), DILLUVAS_OK);
         IS(needed != length || memcmp(text, unknown, length), known);
