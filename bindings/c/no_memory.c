@@ -156,8 +156,10 @@ static void no_request(int line, long before, dilluvas_status status, dilluvas_s
         no_request(__LINE__, before, status, (wanted)); \
     } while (0)
 
-/* The calls that promise to take no memory take none, over a cache whose pages are in memory. */
+/* The calls that promise to take no memory take none, over a cache whose pages are in memory, and so do those that are given pairs whose keys
+ * don't ascend. */
 static bool none_are_asked(void) {
+    static const uint8_t zeros[1 << 20];
     dilluvas d = DILLUVAS_CLOSED;
     dilluvas_settings settings = {256, 10, 4096, 64, 0};
     dilluvas_status status;
@@ -189,6 +191,9 @@ static bool none_are_asked(void) {
     NONE(dilluvas_free(&d, 99, &gone), DILLUVAS_GONE);
     root = 77;
     NONE(dilluvas_cas_root(&d, bytes, 4, &root, page), DILLUVAS_STALE);
+    /* these are 131,072 pairs of the empty key, and no leaf */
+    NONE(dilluvas_allocate(&d, zeros, sizeof zeros, &n, &stale), DILLUVAS_ARGUMENTS);
+    NONE(dilluvas_replace(&d, page, &stamp, zeros, sizeof zeros), DILLUVAS_ARGUMENTS);
     for (int sealed = 0; sealed < 2; sealed++) {
         CALL(dilluvas_pin(&d));
         CALL(dilluvas_set(&d, page, &stamp, bytes, 4, bytes, 4));
