@@ -112,6 +112,8 @@ for crate in $taken; do
     mv "$from/crates/$crate/rlib" "crates/$crate/out/rlib"
 done
 sed 's/[ :#].*//' crates.txt | while read -r crate; do
+    # a line of crates.txt may be a comment
+    [ -n "$crate" ] || continue
     case " $taken " in
     *" $crate "*) mv "$from/crates/$crate/stamp" "crates/$crate/out/rlib/stamp" ;;
     esac
