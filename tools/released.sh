@@ -84,7 +84,7 @@ unset DILLUVAS_SO DILLUVAS_LIB_DIR
 tar -xzf "$archive"
 to=$work/$(basename "$archive" .tar.gz)
 (cd "$to" && sha256sum --quiet --strict -c SUMS) || fail 'its sums are wrong'
-grep -q '^sledpc .*logic=proved ' "$to/PROVED" || fail 'PROVED has no line of the program'
+grep -Eq '^sledpc sources=[0-9a-f]{64} (logic=proved |kept: )' "$to/PROVED" || fail 'PROVED has no line of the program'
 
 printf 'alloc\nset 2 1 62 76\nget 2\nset 2 1 63 77\n' | "$to/bin/sledpc" mem >said
 [ "$(cat said)" = "$(printf 'page 2 1\nok 2\nleaf 2 62=76\nstale 2')" ] || fail "the program replies otherwise: $(cat said)"
