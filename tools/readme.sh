@@ -16,6 +16,7 @@
 # - each file of a crate's specs has its line in docs/dev/SPECS.md;
 # - docs/KEYS.md, and each session of `./dilluvas` in README, is as tools/keys.sh wants it;
 # - docs/API.md is what tools/api.sh prints;
+# - tools/vendor.sh, as the guide calls it, copies the libraries as they are, changes nothing at a second call, and refuses one that differs;
 # - each relative link of a page leads to a file that is there, and to a heading of it, and each page of docs or bench that a source or a
 #   script names is there.
 #
@@ -311,6 +312,21 @@ compare_calls() {
     fi
 }
 
+compare_vendor() {
+    page=tools/vendor.sh
+    mkdir -p "$work/repository/.git"
+    for call in first second; do
+        tools/vendor.sh "$work/repository" >/dev/null || differ "its $call call fails"
+        for crate in $(tools/sum.sh --crates sled_pagecache); do
+            diff -r "crates/$crate/src" "$work/repository/crates/$crate/src" >/dev/null || differ "its $call call leaves other sources of $crate"
+            [ "$(grep -c "^$crate:" "$work/repository/crates.txt")" = 1 ] || differ "its $call call leaves no line of $crate, or more than one"
+        done
+    done
+    echo >>"$work/repository/crates/sled_node/src/lib.rt"
+    ! tools/vendor.sh "$work/repository" sled_tree >/dev/null 2>&1 && [ ! -e "$work/repository/crates/sled_tree" ] ||
+        differ 'it copies beside a library that has other files'
+}
+
 rows_of memory
 rows_of file
 cut_page README.md docs/GUIDE.md
@@ -328,6 +344,7 @@ cut_page docs/SCRIPT.md
 compare_sessions
 tell_faults
 compare_calls
+compare_vendor
 compare_links
 compare_named_pages
 tools/keys.sh || status=1
