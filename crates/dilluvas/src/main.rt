@@ -1,10 +1,9 @@
-//! Ordered maps behind a script: the program `dilluvas FILE`, or `dilluvas :memory:`. All but its words is in `sled_keys`, which says what
-//! of it is proved, and what is shown by tests.
+//! Ordered maps with a script: the program `dilluvas FILE`, or `dilluvas :memory:`. Everything except reading its arguments is in `sled_keys`, which
+//! says what of it is proved, and what is shown by tests. Its arguments are read by `sled_lines`.
 #![tactic(auto)]
 
-use sled_keys::{NoWords, drive};
-use std::env;
-use std::io::ErrorKind;
+use sled_keys::drive;
+use sled_lines::words_of;
 use std::process::ExitCode;
 
 fn main(rt: HostRuntime) -> ExitCode {
@@ -15,17 +14,4 @@ fn main(rt: HostRuntime) -> ExitCode {
     };
     let (input, output, faults) = (&mut rt.reader(), &mut rt.stdout(), &mut rt.stderr());
     ExitCode::from(drive(&rt, words, input, output, faults))
-}
-
-// The words after the program's own path.
-fn words_of(rt: &HostRuntime) -> Result<Vec<String>, NoWords> {
-    let words = match env::args(rt) {
-        Ok(words) => words,
-        Err(error) if error.kind() == ErrorKind::OutOfMemory => return Err(NoWords::Memory),
-        Err(_) => return Err(NoWords::NoText),
-    };
-    words
-        .skip(1)
-        .collect(rt.alloc())
-        .map_err(|_| NoWords::Memory)
 }

@@ -1,6 +1,6 @@
-//! A counter that threads share: each of four threads draws 250 numbers of one cache, and no number is drawn twice or passed over.
+//! A counter that threads share: each of four threads draws 250 numbers from one cache, and no number is drawn twice or skipped.
 //!
-//! The numbers are the cache's ids. `SharedPageCache` has its other calls too, for pages, named roots and batches.
+//! The numbers are the cache's ids. `SharedPageCache` also has calls for pages, named roots and batches.
 #![tactic(auto)]
 
 ghost use Rattle.std.specs.Prelude.{◌≡◌};
@@ -18,7 +18,7 @@ const CONFIG: Config = Config {
     segment_size: 4096,
 };
 
-/// A worker goes through a gate before and after each call. This one lets all through; another could count them.
+/// A worker passes a gate before and after each call. This one lets every call through; another could count them.
 #[derive(Drop)]
 struct Open;
 
@@ -28,9 +28,9 @@ impl Gate for Open {
     fn after(&self, _worker: usize, _call: u64) {}
 }
 
-/// Shares a new cache among four threads. Each has a part of a ledger, by which its calls are counted, and the cache has one more.
+/// Shares a new cache among four threads. Each thread has a part of a ledger, by which its calls are counted, and the cache has one more part.
 ///
-/// The first two conditions name the ledger, and are met where `main` calls `draw`. The third asks for nothing: `K.known` would say that
+/// The first two conditions name the ledger, and are met where `main` calls `draw`. The third requires nothing of a caller: `K.known` would say that
 /// the cache's pages are known, and then the book would be known to replay from them.
 fn share_new<K: Tally>(alloc: Global, blank: Blank) -> Result<SharedPageCache<MemLog, K>, Error>
     requires name { (blank.name ≡ K.name) × (blank.history ≡ K.history) }
@@ -42,7 +42,7 @@ fn share_new<K: Tally>(alloc: Global, blank: Blank) -> Result<SharedPageCache<Me
     SharedPageCache::over(alloc, cache, usize::MAX, 5, blank).map_err(|(error, _)| error)
 }
 
-/// Whether the calls in the book drew 0, 1, 2 and so on.
+/// Returns whether the calls in the book drew 0, 1, 2 and so on.
 fn are_in_order(entries: &[Entry]) -> bool {
     entries.iter().enumerate().all(|(place, entry)| match entry.called() {
         Called::GenerateId(Ok(number)) => *number == place as u64,
@@ -50,7 +50,7 @@ fn are_in_order(entries: &[Entry]) -> bool {
     })
 }
 
-/// Draws so many numbers in each of four threads. It answers how many calls the book has then, and whether they are in order.
+/// Draws `times` numbers in each of four threads. Returns how many calls the book has then, and whether they are in order.
 fn draw<K: Tally + Send + Sync + 'static, R: Threads + Wait + Copy + Send + 'static>(
     rt: R,
     alloc: Global,

@@ -1,4 +1,4 @@
--- What drawing ids over a log is, in the words of the theorem on ids.
+-- What drawing ids from a cache over a log is, in the words of the theorem on ids.
 use Rattle.std.specs.Prelude.{[], ◌∷◌, Ok}
 use Rattle.sled_log.specs.contracts.memory.calls.MemLogLog.TheImpl as mem
 use Rattle.sled_log.specs.declared.memory.MemLog.{MemLog}
@@ -10,7 +10,7 @@ use Rattle.sled_pagecache.specs.declared.pagecache.handles.call.Call.TheVariants
 use Rattle.example_ids.specs.declared.Drawn.{Drawn}
 use Rattle.example_ids.specs.declared.TheConstants.{CONFIG}
 
--- a cache was opened over the log, answered the two ids, and then a crash left the log that is left
+-- a cache was opened over the log, returned the two ids, and then a crash left the log `left`
 pub record IsDrawn (log : MemLog) (drawn : Drawn) : Type 0 where
   pub opened : Cache MemLog
   pub last : Cache MemLog

@@ -1,5 +1,5 @@
-//! Ids that survive crashes: numbers for transactions, rows or files. None comes twice, also where the store crashed between two of them
-//! and lost all that it hadn't made durable.
+//! IDs that survive crashes: numbers for transactions, rows or files. None is returned twice, even if the store crashed between two of them and lost
+//! everything that wasn't durable.
 #![tactic(auto)]
 
 ghost use Rattle.std.specs.Prelude.{IfOk};
@@ -10,7 +10,7 @@ use sled_pagecache::openings::ids_are_given_once;
 use sled_pagecache::{Config, Device, Error, Log, MemLog, PageCache, Why};
 use std::alloc::Global;
 
-/// One of ten ids is made durable. A reopening passes over at most twice as many.
+/// One of ten ids is made durable. A reopening skips at most twice as many.
 const CONFIG: Config = Config {
     cache_capacity: 1 << 20,
     idgen_persist_interval: 10,
@@ -25,7 +25,7 @@ struct Drawn {
     left: MemLog,
 }
 
-/// Opens a cache over a log, draws two ids of it, and crashes: all is lost that isn't durable.
+/// Opens a cache over a log, draws two ids from it, and crashes: everything that isn't durable is lost.
 fn draw(alloc: Global, log: MemLog) -> Result<Drawn, Error>
     ensures { IfOk result (IsDrawn log) }
 {
@@ -47,7 +47,7 @@ fn draw(alloc: Global, log: MemLog) -> Result<Drawn, Error>
     })
 }
 
-/// Draws two ids, crashes, opens the log again and draws two more: each is above all that came before it, so none comes twice.
+/// Draws two ids, crashes, opens the log again and draws two more: each is greater than all before it, so none is returned twice.
 fn draw_over_a_crash(alloc: Global) -> Result<[u64; 4], Error>
     ensures { IfOk result AreRising }
 {

@@ -1,4 +1,4 @@
-//! A key-value file: it is opened, or made; pairs are set in batches, flushed, and read once the file is closed and opened again.
+//! A key-value file: it is opened, or created; pairs are set in batches, flushed, and read after the file was closed and reopened.
 #![tactic(auto)]
 
 mod store;

@@ -9,7 +9,7 @@ use std::alloc::{Alloc, Global};
 use std::fs::{File, Files};
 use std::io;
 
-/// Why the program fails. `?` makes one of an error of the cache or of a print, and `settle` one of a seal that failed.
+/// Why the program fails. `?` makes one from an error of the cache or of a print, and `settle` makes one from a seal that failed.
 #[derive(Debug, Drop, thiserror::Error)]
 pub enum Failure {
     #[error("{0}")]
@@ -17,7 +17,7 @@ pub enum Failure {
     #[error("{0}")]
     Print(#[from] io::Error),
     /// A rule of the store's own: pairs are set at the version of the page that the caller saw last.
-    #[error("the pairs were changed meanwhile")]
+    #[error("the pairs changed after this version was read")]
     Changed,
 }
 
@@ -29,10 +29,10 @@ const CONFIG: Config = Config {
     segment_size: 1 << 16,
 };
 
-/// The page of the pairs. The cache has pages 0 and 1 for itself, so this is the first that is allocated.
+/// The page of the pairs. The cache uses pages 0 and 1 itself, so this is the first page that is allocated.
 pub const PAIRS: PageId = 2;
 
-/// Opens the file, and makes it where it is absent or empty. It is closed once the store goes out of scope.
+/// Opens the file, and creates it if it is absent or empty. It is closed when the store goes out of scope.
 pub fn open<H: Files<File = File> + Alloc>(
     files: &H,
     alloc: Global,
@@ -47,7 +47,7 @@ pub fn open<H: Files<File = File> + Alloc>(
     PageCache::start(alloc, CONFIG, log).map_err(|(error, _)| error)
 }
 
-/// The token of the page of the pairs, which names its version. A new file is given the page.
+/// Returns the token of the page of the pairs, which names its version. In a new file it allocates the page first.
 pub fn version(alloc: Global, store: &mut Store) -> Result<PageView, Error> {
     if let Some(view) = store.get(PAIRS)? {
         return Ok(view.token());
@@ -56,9 +56,9 @@ pub fn version(alloc: Global, store: &mut Store) -> Result<PageView, Error> {
     Ok(token)
 }
 
-/// Sets all of these pairs in one batch, if the page is still at this version. After a crash all of them are there, or none.
+/// Sets all of these pairs in one batch, if the page still has this version. After a crash all of them are there, or none.
 ///
-/// An error in the midst of them, for want of memory say, cancels the batch, which undoes nothing: those before it stay set.
+/// An error between two of them, for example a failed allocation, cancels the batch, which undoes nothing: the pairs before it stay set.
 pub fn set_all(
     alloc: Global,
     store: &mut Store,

@@ -6,7 +6,7 @@ use std::fs::{File, Files};
 use std::ops::Bound;
 use std::{io, str};
 
-/// Why the program fails. `?` makes one of an error of the maps, of an allocation or of a print.
+/// Why the program fails. `?` makes one from an error of the maps, of an allocation or of a print.
 #[derive(Debug, Drop, thiserror::Error)]
 pub enum Failure {
     #[error("{0}")]
@@ -15,8 +15,8 @@ pub enum Failure {
     Memory(#[from] AllocError),
     #[error("{0}")]
     Print(#[from] io::Error),
-    /// A rule of the accounts' own: no balance falls below zero.
-    #[error("there is not so much")]
+    /// A rule of the accounts' own: no balance may fall below zero.
+    #[error("the balance is too low")]
     Short,
 }
 
@@ -34,7 +34,7 @@ pub struct Accounts {
 }
 
 impl Accounts {
-    /// Opens the file, and makes it where it is absent or empty. It is closed once the accounts go out of scope.
+    /// Opens the file, and creates it if it is absent or empty. It is closed when the accounts go out of scope.
     pub fn open<H: Files<File = File> + Alloc>(
         files: &H,
         alloc: Global,
@@ -50,7 +50,7 @@ impl Accounts {
         })
     }
 
-    /// The balance of an account, which is zero where there is none.
+    /// Returns the balance of an account, or zero if there is no such account.
     pub fn balance(&mut self, name: &str) -> Result<u64, TreeError> {
         match self.maps.get(self.balances, name.as_bytes())? {
             Some(value) => Ok(number_in(value.as_slice())),
@@ -65,10 +65,10 @@ impl Accounts {
         Ok(())
     }
 
-    /// Moves an amount, and notes that, in one batch: after a crash all of it is there, or nothing.
+    /// Moves an amount and records the transfer in one batch: after a crash all of it is there, or nothing.
     ///
-    /// What it refuses it refuses before it changes a map. An error in the midst of the changes, for want of memory say, cancels the batch,
-    /// which undoes nothing.
+    /// A transfer that is refused has changed no map. An error between two changes, for example a failed allocation, cancels the batch, which undoes
+    /// nothing.
     pub fn transfer(
         &mut self,
         alloc: Global,
@@ -111,18 +111,18 @@ impl Accounts {
         Ok(())
     }
 
-    /// Makes all changes durable, and answers how many bytes that wrote.
+    /// Makes all changes durable, and returns how many bytes that wrote.
     pub fn flush(&mut self) -> Result<usize, TreeError> {
         self.maps.flush()
     }
 
-    /// The accounts in the order of their names: those that one leaf has, which are all of a few.
+    /// Returns the accounts in the order of their names: those of one leaf, which are all of them if there are few.
     pub fn balances(&mut self) -> Result<Vec<(IVec, IVec)>, TreeError> {
         let all = Bound::Unbounded;
         Ok(self.maps.range(self.balances, &all, &all)?.pairs)
     }
 
-    /// The last transfer, with its number.
+    /// Returns the last transfer, with its number.
     pub fn last_transfer(&mut self) -> Result<Option<(IVec, IVec)>, TreeError> {
         self.maps.last(self.transfers)
     }

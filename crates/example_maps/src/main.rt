@@ -1,5 +1,5 @@
-//! Accounts in a file: two ordered maps, which a transfer changes in one batch, and which are read in the order of their keys once the
-//! file is closed and opened again.
+//! Accounts in a file: two ordered maps, which a transfer changes in one batch, and which are read in key order after the file was closed and
+//! reopened.
 #![tactic(auto)]
 
 mod accounts;

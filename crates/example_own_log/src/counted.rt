@@ -1,4 +1,4 @@
-//! A log that counts what is appended to another.
+//! A log that counts what is appended to another log.
 
 ghost use Rattle.std.specs.Prelude.{◌≡◌};
 
@@ -6,13 +6,13 @@ use sled_pagecache::{
     BlobPointer, DiskPtr, Log, LogError, LogOffset, Lsn, MessageKind, PageId, PageState,
 };
 
-/// Where a message was put, by its number, its place and its size, or why it wasn't.
+/// The number, the place and the size of a message that was appended, or why it wasn't.
 type Placed = Result<(Lsn, DiskPtr, u64), LogError>;
 
 /// A message that was read, or why it wasn't.
 type Found = Result<(MessageKind, Vec<u8>), LogError>;
 
-/// A log, with the number of its messages and of the bytes of their payloads.
+/// A log, with the number of the messages appended to it and the number of bytes of their payloads.
 #[derive(Drop)]
 pub struct Counted<L: Log> {
     inner: L,
@@ -21,7 +21,7 @@ pub struct Counted<L: Log> {
 }
 
 impl<L: Log> Counted<L> {
-    /// Counts what is appended from now on.
+    /// Wraps a log, and counts what is appended from now on.
     pub fn over(inner: L) -> Counted<L>
         ensures { result.inner ≡ inner }
     {

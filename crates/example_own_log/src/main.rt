@@ -1,4 +1,4 @@
-//! A log of one's own: `Counted` counts what a cache appends, over any other log, and promises what that one promises.
+//! A log of your own: `Counted` counts what a cache appends to any other log, and promises what that log promises.
 #![tactic(auto)]
 
 mod counted;
@@ -20,7 +20,7 @@ fn open(alloc: Global) -> Result<Store, Error> {
     PageCache::start(alloc, CONFIG, log).map_err(|(error, _)| error)
 }
 
-/// Adds a page, and sets a key of it so many times.
+/// Allocates a page, and sets a key of it `times` times.
 fn set_often(alloc: Global, store: &mut Store, times: u8) -> Result<(), Error> {
     let (_, mut token) = store.allocate(Node::default(alloc))?;
     for value in 0..times {

@@ -2,14 +2,15 @@
 use Rattle.std.proofs.Common.{◌≡◌, ℕ, zero, suc, ◌+◌, ◌-◌, ◌<◌, ◌≤◌, ◌^◌, List, [], ◌∷◌, ◌++◌, length, get_or, map, take, drop, refl, sym, ap, subst, ◌∙◌, append_assoc, add-one, arith}
 use Rattle.std.specs.List.{AllByRecursion}
 use Rattle.std.proofs.lemmas.List.{take_all, take-append-drop, length-append, length-take-le, length-map, length-drop, append-nil, take_at, drop_at, take-append-le, drop-append-le, drop_more, drop-drop, get_or-append_right, get_or-drop}
+use Rattle.std.proofs.lemmas.Bool.{le-leb}
 use Rattle.std.proofs.Math.ListN.{drop_of_length-le}
-use Rattle.std.proofs.Math.Seq.{take-append-add, drop-append-add, take-add}
-use Rattle.std.specs.Prelude.{Result, Ok, Err, OnOk, OnErr, nat_le, nat_lt, slice_range}
+use Rattle.std.proofs.Math.Seq.{take-append-add, drop-append-add}
+use Rattle.std.specs.Prelude.{Result, Ok, Err, OnOk, OnErr, nat_le, nat_lt}
 use Rattle.sled_base.specs.Order.{Bytes}
 use Rattle.sled_base.specs.Payloads.Numbers.{written_u64, byte_count}
 use Rattle.sled_base.specs.Payloads.NumberLaws.{chosen, length-low_bytes}
 use Rattle.sled_base.specs.Payloads.ByteStrings.{written_bytes, CanWriteBytes}
-use Rattle.sled_base.specs.Strings.{ends_from, strings_in, Keeps, begin_of, with_at, without_at}
+use Rattle.sled_base.specs.Strings.{ends_from, strings_in, Keeps, begin_of, IsPlain, with_at, without_at}
 use Rattle.sled_base.specs.StringLaws.{strings_are, keeps_own, written, written_both, ends_all, all_both, all_front, ends_count, parts_at, lies_at, spliced, can_move, ends_last_between}
 
 pub on_ok_so : {T E : Type 0} {P Q : Type 0} (r : Result T E) → (P → Q) → OnOk r P → OnOk r Q
@@ -199,6 +200,16 @@ module _ (strings : List Bytes) (bytes : Bytes) (ends : List ℕ) (keeps : Keeps
         later : AllByRecursion (λ e. (end - start ≤ e) × (e - (end - start) + size < 2 ^ 64)) (drop (place + 1) ends)
         later = subst (λ n. AllByRecursion (λ e. (end - start ≤ e) × (e - (end - start) + size < 2 ^ 64)) (drop n ends)) from (lift 0 (drop (length before + 1) ends) (ends_last_between before (old ∷ []) [] behind bytes ends all_parts))
 
+    -- a string of the same size leaves the ends
+    pub replaced_same : (string : Bytes) (size : ℕ) → size ≡ length (written_bytes string) → CanWriteBytes string → size ≡ end - start → length bytes < 2 ^ 64 → Keeps (before ++ string ∷ behind) (take start bytes ++ (written_bytes string ++ drop end bytes)) ends
+    replaced_same string size size_is can same fits =
+        let stay : map (λ e. e - (end - start) + size) (drop place ends) ≡ drop place ends = stays (drop place ends) (can_replace size (omega (arith, order, same, fits))) in
+        subst (Keeps (before ++ string ∷ behind) (take start bytes ++ (written_bytes string ++ drop end bytes))) (ap (λ es. take place ends ++ es) stay ∙ take-append-drop place ends) (replaced string size size_is can)
+      where
+        stays : (es : List ℕ) → AllByRecursion (λ e. (end - start ≤ e) × (e - (end - start) + size < 2 ^ 64)) es → map (λ e. e - (end - start) + size) es ≡ es
+        stays [] all = refl
+        stays (e ∷ es) all = let here : e - (end - start) + size ≡ e = omega (arith, all.0.0, same) in λ i. here i ∷ stays es all.1 i
+
     pub removed : (shorter : List ℕ) → shorter ≡ take place ends ++ drop (place + 1) ends → Keeps (before ++ behind) (take start bytes ++ drop end bytes) (take place shorter ++ map (λ e. e - (end - start) + 0) (drop place shorter))
     removed shorter shorter_is =
         let lies = lies_at strings bytes ends keeps place [] lt in
@@ -298,16 +309,41 @@ among_first (x ∷ xs) (suc count) (suc i) d lt = among_first xs count i d (omeg
 
 -- ---- strings at the front of an input, each with a length of one byte
 
--- one string more, behind those that were found
-pub one_more : (input : Bytes) (ends : List ℕ) (at end : ℕ) → at ≤ length input → Keeps (strings_in (take at input) ends) (take at input) ends → end ≤ length input → (string : Bytes) → slice_range input at end ≡ written_bytes string → at ≤ end → CanWriteBytes string
-    → Keeps (strings_in (take end input) (ends ++ end ∷ [])) (take end input) (ends ++ end ∷ [])
-one_more input ends at end le keeps within string here order can =
-    let strings = strings_in (take at input) ends in
-    let split : take end input ≡ take at input ++ written_bytes string = ap (λ n. take n input) (let sum : end ≡ at + (end - at) = omega arith in sum) ∙ take-add at (end - at) input ∙ ap (λ w. take at input ++ w) here in
-    let from : length (written strings) ≡ at = omega (arith, ap length keeps.bytes_are, length-take-le at input le) in
-    let size : at + length (written_bytes string) ≡ end = omega (arith, ap length here, length-take-le (end - at) (drop at input), length-drop at input, within, order) in
-    keeps_own (strings ++ string ∷ []) (take end input) (ends ++ end ∷ []) (record {
-      bytes_are = written_both strings (string ∷ []) ∙ (λ i. keeps.bytes_are i ++ append-nil (written_bytes string) i) ∙ sym split;
-      ends_are = ends_all strings (string ∷ []) ∙ (λ i. keeps.ends_are i ++ (from i + length (written_bytes string)) ∷ []) ∙ (λ i. ends ++ size i ∷ []);
-      can_write = all_both strings (string ∷ []) keeps.can_write (can, tt);
-    })
+-- the byte in front is the length of a string
+pub plain_front : (input : Bytes) (len : ℕ) (rest : Bytes) → input ≡ len ∷ rest → len ≤ 240 → len ≤ length rest → IsPlain input (take (length rest - len) (drop len rest))
+plain_front input len rest is low within =
+    let many : length (take len rest) ≡ len = length-take-le len rest within in
+    let count : written_u64 (length (take len rest)) ≡ len ∷ [] = ap written_u64 many ∙ rw (le-leb len 240 low) refl in
+    let all : take (length rest - len) (drop len rest) ≡ drop len rest = take_all (length rest - len) (drop len rest) (omega (arith, length-drop len rest)) in
+    record {
+      string = take len rest;
+      here = is ∙ (λ i. len ∷ sym (take-append-drop len rest) i) ∙ (λ i. (sym count i ++ take len rest) ++ sym all i);
+      short = omega (arith, many);
+    }
+
+-- strings with these ends stand at the front, and the rest follows them
+pub record AreRead (input rest : Bytes) (ends : List ℕ) : Type 0 where
+  pub strings : List Bytes
+  pub bytes : Bytes
+  pub here : input ≡ bytes ++ rest
+  pub keeps : Keeps strings bytes ends
+
+-- one string more
+pub one_more : (input rest behind : Bytes) (ends : List ℕ) → AreRead input rest ends → IsPlain rest behind → AreRead input behind (ends ++ (length input - length behind) ∷ [])
+one_more input rest behind ends read next =
+    let w = written_bytes next.string in
+    let here : input ≡ (read.bytes ++ w) ++ behind = read.here ∙ ap (λ r. read.bytes ++ r) next.here ∙ sym (append_assoc read.bytes w behind) in
+    let end : length input - length behind ≡ length read.bytes + length w = omega (arith, ap length here, length-append (read.bytes ++ w) behind, length-append read.bytes w) in
+    record {
+      strings = read.strings ++ next.string ∷ [];
+      bytes = read.bytes ++ w;
+      here = here;
+      keeps = pushed read.strings read.bytes ends read.keeps next.string (length input - length behind) end (omega (arith, next.short));
+    }
+
+-- what was read is kept by a copy of the bytes before the rest
+pub copy_keeps : (input rest : Bytes) (ends : List ℕ) (copy : Bytes) → AreRead input rest ends → copy ≡ take (length input - length rest) input → Keeps (strings_in copy ends) copy ends × ((copy ++ rest) ≡ input)
+copy_keeps input rest ends copy read is =
+    let many : length read.bytes ≡ length input - length rest = omega (arith, ap length read.here, length-append read.bytes rest) in
+    let same : copy ≡ read.bytes = is ∙ ap (take (length input - length rest)) read.here ∙ take_at read.bytes rest (length input - length rest) many in
+    (keeps_own read.strings copy ends (subst (λ b. Keeps read.strings b ends) (sym same) read.keeps), ap (λ b. b ++ rest) same ∙ sym read.here)

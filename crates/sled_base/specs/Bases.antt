@@ -5,6 +5,6 @@ use Rattle.std.specs.declared.sync.Arc.{Arc}
 use Rattle.std.specs.declared.vec.Vec.{Vec}
 
 module _ {A B : Type 0} where
-  -- so many bytes of a shared list, from a place on
+  -- `len` bytes of a shared list, from `offset` on
   abbrev pub bytes_at : Arc (Vec ℕ A) B → ℕ → ℕ → List ℕ
   bytes_at base offset len = take len (drop offset (arc_value base).items)

@@ -1,4 +1,4 @@
--- A cell of a linked list in the space of a link.
+-- A cell of a linked list, stored in the space of a link.
 use Rattle.std.specs.Prelude.{◌≡◌, ℕ, Bool, true, false, if◌then◌else◌, Option, Some, None, refl}
 use Rattle.std.proofs.Common.{sym, ap, ◌∙◌}
 use Rattle.std.proofs.lemmas.Bool.{eqb-true, false≢true}
@@ -20,7 +20,7 @@ abbrev pub IsUnmarked : Cell → Type 0
 IsUnmarked (Linked link) = is_mark link.before ≡ false
 IsUnmarked (Free next) = Unit {0}
 
--- a free cell has no item
+-- in a free cell the number of the item is 0
 abbrev pub IsExact : Link → Type 0
 IsExact link = is_mark link.before ≡ true → link.item ≡ 0
 

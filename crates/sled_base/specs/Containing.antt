@@ -25,7 +25,7 @@ contains-map f [] x h = absurd (contains_none x h)
 contains-map f (y ∷ xs) x h =
     elim (contains_cases y xs x h) [ inl same ↦ subst (λ z. Contains (f y ∷ map f xs) (f z)) same (contains_first (f y) (map f xs)) | inr later ↦ contains_later (f y) (map f xs) (f x) (contains-map f xs x later) ]
 
--- what a mapped list contains comes from an element
+-- each element of a mapped list is the image of an element of the list
 pub record IsMapped {X Y : Type 0} (f : X → Y) (xs : List X) (y : Y) : Type 0 where
   pub from : X
   pub there : Contains xs from
@@ -36,7 +36,7 @@ mapped_from f [] y h = absurd (contains_none y h)
 mapped_from f (x ∷ xs) y h =
     elim (contains_cases (f x) (map f xs) y h) [ inl same ↦ record { from = x; there = contains_first x xs; is = same } | inr later ↦ (let m = mapped_from f xs y later in record { from = m.from; there = contains_later x xs m.from m.there; is = m.is }) ]
 
--- a list that contains an element is what stands before it, it, and what stands behind it
+-- a list that contains an element is a front, the element, and a back
 pub record IsSplit {X : Type 0} (xs : List X) (x : X) : Type 0 where
   pub front : List X
   pub back : List X

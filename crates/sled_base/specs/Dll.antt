@@ -15,7 +15,7 @@ slots list = map (λ l. l.slot) list
 abbrev pub items : List Listed → List ℕ
 items list = map (λ l. l.item) list
 
--- The slot of the last item, or else another.
+-- The slot of the last item, or the other one if there is no item.
 abbrev pub last_slot_or : Option Slot → List Listed → Option Slot
 last_slot_or other [] = other
 last_slot_or other (x ∷ list) = last_slot_or (Some x.slot) list
@@ -24,12 +24,12 @@ last_slot_or other (x ∷ list) = last_slot_or (Some x.slot) list
 abbrev pub last_slot : List Listed → Option Slot
 last_slot list = last_slot_or None list
 
--- No slot stands twice.
+-- No slot occurs twice.
 abbrev pub AreDistinct : List Slot → Type 0
 AreDistinct [] = Unit {0}
 AreDistinct (slot ∷ others) = (¬ Contains others slot) × AreDistinct others
 
--- The item in the slot stands first, and the others stand behind it in their order.
+-- The item in the slot comes first, and the others follow in their order.
 pub record IsPromoted (slot : Slot) (old new : List Listed) : Type 0 where
   pub before : List Listed
   pub item : ℕ
@@ -37,7 +37,7 @@ pub record IsPromoted (slot : Slot) (old new : List Listed) : Type 0 where
   pub is : old ≡ before ++ listed slot item ∷ after
   pub then : new ≡ listed slot item ∷ before ++ after
 
--- The slot gets another item, which stands first, and the others stand behind it in their order.
+-- The slot gets another item, which comes first, and the others follow in their order.
 pub record IsRenewed (slot : Slot) (item : ℕ) (old new : List Listed) : Type 0 where
   pub before : List Listed
   pub was : ℕ

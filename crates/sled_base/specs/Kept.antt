@@ -1,4 +1,4 @@
--- How a byte string is kept.
+-- How a byte string is stored.
 use Rattle.std.specs.Prelude.{ℕ, ◌≤◌, List, length, take}
 use Rattle.sled_base.specs.Bases.{bytes_at}
 use Rattle.sled_base.specs.Limits.{inline_limit}
@@ -13,7 +13,7 @@ short_bytes short = take short.len short.bytes
 abbrev pub part_bytes : Part → List ℕ
 part_bytes part = bytes_at part.base part.offset part.len
 
--- the bytes: the first ones in place, or a part of what is shared
+-- the bytes: the first ones of an inline array, or a part of a shared list
 abbrev pub bytes_of : Kept → List ℕ
 bytes_of (Inline short) = short_bytes short
 bytes_of (Shared part) = part_bytes part

@@ -1,4 +1,4 @@
--- What a list of recent use is: shards of places with their sizes, in each the place that was used last first.
+-- What a list of recent use is: shards of places with their sizes, in each the most recently used place first.
 use Rattle.std.specs.Prelude.{◌≡◌, ◌<◌, ◌≤◌, ◌+◌, ◌*◌, ◌/◌, ◌%◌, ◌⊎◌, ◌==◌, nat_le, not, true, false, ℕ, zero, suc, List, [], ◌∷◌, ◌++◌, length, map, reverse, filter, slice_set, slice_index_or, Contains}
 use Rattle.std.specs.List.{sum_by, AllByRecursion}
 use Rattle.sled_base.specs.Limits.{shard_count}
@@ -11,7 +11,7 @@ pub record Listing : Type 0 where
 abbrev pub listing : ℕ → ℕ → Listing
 listing place size = record { place = place; size = size }
 
--- how much what is listed takes together
+-- the sum of the listed sizes
 abbrev pub total : List Listing → ℕ
 total shard = sum_by (λ l. l.size) shard
 
@@ -20,11 +20,11 @@ pub record Recency : Type 0 where
   pub capacity : ℕ
   pub shards : List (List Listing)
 
--- the listings of the shard but that of the place, in their order
+-- the listings of the shard except that of the place, in their order
 abbrev pub others : ℕ → List Listing → List Listing
 others place shard = filter (λ l. not (l.place == place)) shard
 
--- the first of power, 2 * power, 4 * power, .. that is not below the size; so often the power may be doubled
+-- the first of power, 2 * power, 4 * power, .. that is not below the size, after at most the given number of doublings
 abbrev pub doubled_to : ℕ → ℕ → ℕ → ℕ
 doubled_to zero size power = power
 doubled_to (suc n) size power = elim (nat_le size power) [ true ↦ power | false ↦ doubled_to n size (2 * power) ]
@@ -33,13 +33,13 @@ doubled_to (suc n) size power = elim (nat_le size power) [ true ↦ power | fals
 abbrev pub rounded : ℕ → ℕ
 rounded size = doubled_to size size 1
 
--- of what leaves, the first wouldn't have fitted too
+-- the first of the evicted listings would not have fit besides those that stay
 abbrev pub IsTooMuch : ℕ → List Listing → List Listing → Type 0
 IsTooMuch capacity stays [] = Unit {0}
 IsTooMuch capacity stays (first ∷ leaves) = capacity < total (stays ++ first ∷ [])
 
--- A place was used, and takes so much from then on: it stands first. Of the others, in their order, as many stay from the
--- front on as the capacity takes beside it. The rest leaves, from the end on.
+-- A place was used, and has the given size from then on. It becomes the first. Of the others, in their order, as many stay, from
+-- the front on, as fit into the capacity with it. The rest is evicted, the last one first.
 pub record IsUsed (capacity place size : ℕ) (old new : List Listing) (gone : List ℕ) : Type 0 where
   pub stays : List Listing
   pub leaves : List Listing
@@ -53,7 +53,7 @@ pub record IsUsed (capacity place size : ℕ) (old new : List Listing) (gone : L
 abbrev pub shard_at : Recency → ℕ → List Listing
 shard_at recency i = slice_index_or recency.shards i []
 
--- A page was used, and takes so much from then on. Each page has its place in one shard, and only that shard changes.
+-- A page was used, and has the given size from then on. Each page has its place in one shard, and only that shard changes.
 pub record IsAccessed (id size : ℕ) (old new : Recency) (gone : List ℕ) : Type 0 where
   pub capacity : new.capacity ≡ old.capacity
   pub shard : List Listing
@@ -66,16 +66,16 @@ pub record IsAccessed (id size : ℕ) (old new : Recency) (gone : List ℕ) : Ty
 abbrev pub IsListed : ℕ → ℕ → Recency → Type 0
 IsListed id size recency = Contains (shard_at recency (id % shard_count)) (listing (id / shard_count) size)
 
--- a shard takes no more than its capacity, but for a single place
+-- a shard takes no more than its capacity, unless it lists a single place
 abbrev pub IsWithin : ℕ → List Listing → Type 0
 IsWithin capacity shard = (total shard ≤ capacity) ⊎ (length shard ≤ 1)
 
--- no place stands twice
+-- no place is listed twice
 abbrev pub AreApart : List Listing → Type 0
 AreApart [] = Unit {0}
 AreApart (l ∷ shard) = (¬ Contains (map (λ k. k.place) shard) l.place) × AreApart shard
 
--- what holds of every list of recent use
+-- what holds for every list of recent use
 pub record IsSound (recency : Recency) : Type 0 where
   pub count : length recency.shards ≡ shard_count
   pub within : AllByRecursion (IsWithin (recency.capacity / shard_count)) recency.shards

@@ -24,7 +24,7 @@ others_contain place shard l other h = contains-filter (is_other place) shard l 
 
 -- ---- one shard
 
--- what leaves was listed
+-- what is evicted was listed
 record WasListed (leaves : List Listing) (place : ℕ) : Type 0 where
   listed : Listing
   there : Contains leaves listed
@@ -57,7 +57,7 @@ module _ (capacity place size : ℕ) (old new : List Listing) (gone : List ℕ) 
         | inr leaves ↦ inr (subst (λ ps. Contains ps l.place) (sym used.out) (contains-of_reverse (places_of used.leaves) l.place (contains-map (λ (k : Listing). k.place) used.leaves l leaves)))
       ]
 
--- ---- places that stand once
+-- ---- places that are listed once
 
 apart-filter : (p : Listing → Bool) (shard : List Listing) → AreApart shard → AreApart (filter p shard)
 apart-filter p [] apart = tt
@@ -93,13 +93,13 @@ module _ (capacity place size : ℕ) (old new : List Listing) (gone : List ℕ) 
   both_apart : AreApart (used.stays ++ used.leaves)
   both_apart = subst AreApart used.all (apart-filter (is_other place) old apart)
 
-  -- they stand once after it
+  -- after an access each place is still listed once
   pub apart-used : AreApart new
   apart-used =
       let lacks : ¬ Contains (places_of used.stays) place = λ h. (let m = mapped_from (λ (k : Listing). k.place) used.stays place h in stays_lack capacity place size old new gone used m.from m.there m.is) in
       subst AreApart (sym used.is) (lacks, apart-front used.stays used.leaves both_apart)
 
-  -- and what left isn't listed any more
+  -- and what was evicted isn't listed any more
   gone_are_not_listed : (l : Listing) → Contains gone l.place → ¬ Contains new l
   gone_are_not_listed l h there =
       let w = was_listed used.leaves gone l.place used.out h in
@@ -120,7 +120,7 @@ each-set P [] i y new each = tt
 each-set P (x ∷ xs) zero y new each = (new, each.1)
 each-set P (x ∷ xs) (suc i) y new each = (each.0, each-set P xs i y new each.1)
 
--- in a list of recent use that is sound no place stands twice in a shard
+-- in a sound list of recent use no place is listed twice in a shard
 pub shard_is_apart : (recency : Recency) (i : ℕ) → IsSound recency → AreApart (shard_at recency i)
 shard_is_apart recency i sound = each_at AreApart recency.shards i [] tt sound.apart
 
@@ -133,7 +133,7 @@ module _ (id size : ℕ) (old new : Recency) (gone : List ℕ) (accessed : IsAcc
   unchanged : (i : ℕ) → i ≢ id % shard_count → shard_at new i ≡ shard_at old i
   unchanged i other = ap (λ shards. slice_index_or shards i []) accessed.shards ∙ get_or-set_other old.shards (id % shard_count) i accessed.shard [] other
 
-  -- what left is a page of the same shard
+  -- what was evicted is a page of the same shard
   record Left (other : ℕ) : Type 0 where
     there : Contains accessed.places (other / shard_count)
     shard : other % shard_count ≡ id % shard_count
@@ -144,7 +144,7 @@ module _ (id size : ℕ) (old new : Recency) (gone : List ℕ) (accessed : IsAcc
       let from : m.from ≡ other / shard_count = omega (arith, m.is) in
       record { there = subst (λ place. Contains accessed.places place) from m.there; shard = omega (arith, m.is) }
 
-  -- The page itself doesn't leave.
+  -- The page itself isn't evicted.
   pub itself_stays : ¬ Contains gone id
   itself_stays h = gone_lack (old.capacity / shard_count) (id / shard_count) size (shard_at old (id % shard_count)) accessed.shard accessed.places accessed.used (id / shard_count) (left id h).there refl
 
@@ -153,7 +153,7 @@ module _ (id size : ℕ) (old new : Recency) (gone : List ℕ) (accessed : IsAcc
   itself_is_listed count =
       subst (λ shard. Contains shard (listing (id / shard_count) size)) (sym (changed count)) (is_first (old.capacity / shard_count) (id / shard_count) size (shard_at old (id % shard_count)) accessed.shard accessed.places accessed.used)
 
-  -- Another page that was listed is listed with the same size, or it leaves.
+  -- Another page that was listed is listed with the same size, or it is evicted.
   pub others_stay_or_leave : length old.shards ≡ shard_count → (other x : ℕ) → other ≢ id → IsListed other x old → IsListed other x new ⊎ Contains gone other
   others_stay_or_leave count other x differ listed = elim (eqb_tells (other % shard_count) (id % shard_count)) [ inl same ↦ here same.1 | inr away ↦ inl (subst (λ shard. Contains shard (listing (other / shard_count) x)) (sym (unchanged (other % shard_count) away.1)) listed) ]
     where
@@ -167,7 +167,7 @@ module _ (id size : ℕ) (old new : Recency) (gone : List ℕ) (accessed : IsAcc
             | inr leaves ↦ inr (subst (λ ids. Contains ids other) (sym accessed.out) (subst (λ n. Contains (map (λ place. place * shard_count + id % shard_count) accessed.places) n) is (contains-map (λ place. place * shard_count + id % shard_count) accessed.places (other / shard_count) leaves)))
           ]
 
-  -- A page that leaves isn't listed any more, where no place stood twice in its shard.
+  -- An evicted page isn't listed any more, if no place was listed twice in its shard.
   pub gone_is_not_listed : length old.shards ≡ shard_count → AreApart (shard_at old (id % shard_count)) → (other x : ℕ) → Contains gone other → ¬ IsListed other x new
   gone_is_not_listed count apart other x h listed =
       let was = left other h in

@@ -8,7 +8,7 @@ use Rattle.sled_base.specs.declared.dll.Slot.{Slot}
 abbrev pub no_slot : ℕ
 no_slot = 4294967295
 
--- There are at most so many cells, so no slot has the number itself: as the neighbour in a cell it says that the cell is free.
+-- The largest number of cells. No slot has this number, so as the neighbour in a cell it marks the cell as free.
 abbrev pub cell_limit : ℕ
 cell_limit = 4294967294
 

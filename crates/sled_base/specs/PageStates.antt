@@ -1,4 +1,4 @@
--- What a log knows of a page.
+-- What a log knows about a page.
 use Rattle.sled_base.specs.declared.types.page_state.PageState.{PageState}
 use Rattle.sled_base.specs.declared.types.page_state.PageState.TheVariants.{Present, Free}
 

@@ -1,4 +1,4 @@
--- Where a message stands in a log.
+-- The place of a message in a log.
 use Rattle.std.specs.Prelude.{◌≡◌, ℕ, ℤ}
 use Rattle.sled_base.specs.declared.types.DiskPtr.{DiskPtr}
 use Rattle.sled_base.specs.declared.types.DiskPtr.TheVariants.{Inline, Blob}

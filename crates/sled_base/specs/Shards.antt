@@ -6,7 +6,7 @@ use Rattle.sled_base.specs.Limits.{shard_count, exponent_count}
 use Rattle.sled_base.specs.Lru.{Listing, listing, total, others, IsTooMuch, IsWithin, AreApart}
 use Rattle.sled_base.specs.declared.dll.Slot.{Slot}
 
--- how much a shard may take, and what it lists
+-- the capacity of a shard, and what it lists
 pub record Shelf : Type 0 where
   pub capacity : ℕ
   pub listings : List Listing
@@ -29,17 +29,17 @@ listings_of list = map (λ x. listing (place_in x.item) (size_in x.item)) list
 abbrev pub entry_at : List (Option Slot) → ℕ → Option Slot
 entry_at entries place = slice_index_or entries place None
 
--- the entry of the item's place names the item's slot
+-- the entry of the item's place has the item's slot
 abbrev pub HasSlot : List (Option Slot) → Listed → Type 0
 HasSlot entries x = entry_at entries (place_in x.item) ≡ Some x.slot
 
--- an item of the place stands in the slot
+-- an item of the place is in the slot
 pub record StandsAt (place : ℕ) (slot : Slot) (list : List Listed) : Type 0 where
   pub item : ℕ
   pub there : Contains list (listed slot item)
   pub is : place_in item ≡ place
 
--- Each place that is listed has an entry with its slot, and no other place has one. The sizes add up to the sum.
+-- Each listed place has an entry with its slot, and no other place has a slot. The sizes add up to the sum.
 pub record IsIndexed (entries : List (Option Slot)) (list : List Listed) (sum : ℕ) : Type 0 where
   pub named : AllByRecursion (HasSlot entries) list
   pub there : (place : ℕ) (slot : Slot) → entry_at entries place ≡ Some slot → StandsAt place slot list
@@ -47,12 +47,12 @@ pub record IsIndexed (entries : List (Option Slot)) (list : List Listed) (sum : 
   pub sum_is : sum ≡ total (listings_of list)
   pub few : length entries ≤ 2 ^ 56
 
--- The item stands first in the list, in the slot of its place's entry, or in one that no other has.
+-- The item becomes the first of the list, in the slot of its place's entry, or else in a slot that no other item has.
 abbrev pub PutsFirst : Slot → ℕ → Option Slot → List Listed → List Listed → Type 0
 PutsFirst slot item None old new = (¬ Contains (slots old) slot) × (new ≡ listed slot item ∷ old)
 PutsFirst slot item (Some named) old new = (slot ≡ named) × IsRenewed slot item old new
 
--- So many of the others leave for a place of that size.
+-- For a place of that size, this many of the other places are evicted.
 pub record IsCut (capacity place size : ℕ) (old : List Listing) (count : ℕ) : Type 0 where
   pub stays : List Listing
   pub leaves : List Listing
@@ -61,14 +61,14 @@ pub record IsCut (capacity place size : ℕ) (old : List Listing) (count : ℕ) 
   pub fits : (size + total stays ≤ capacity) ⊎ (stays ≡ [])
   pub needed : IsTooMuch capacity (listing place size ∷ stays) leaves
 
--- The last place is taken out.
+-- The last place is removed.
 pub record TakesLast (place : ℕ) (old new : Shelf) : Type 0 where
   pub capacity : new.capacity ≡ old.capacity
   pub size : ℕ
   pub is : old.listings ≡ new.listings ++ listing place size ∷ []
   pub near : place < 2 ^ 56
 
--- a shard takes its part of the capacity
+-- the shard has its part of the capacity, takes no more than that unless it lists a single place, and lists no place twice
 pub record IsShardOf (capacity : ℕ) (shard : Shelf) : Type 0 where
   pub part : shard.capacity ≡ capacity / shard_count
   pub within : IsWithin (capacity / shard_count) shard.listings

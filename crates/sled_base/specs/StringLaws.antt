@@ -16,11 +16,11 @@ written strings = flat_map written_bytes strings
 
 -- ---- there and back
 
--- a string that was written is what stands behind its length
+-- a written string is what follows its length
 pub unwritten_is : (string : Bytes) → CanWriteBytes string → unwritten (written_bytes string) ≡ string
 unwritten_is string can = ap behind_length (reads_encoding (written_u64 (length string)) string (length string) (encodes_written (length string) can))
 
--- the run behind a front
+-- the run after a front
 pub slice_behind : (front run rest : Bytes) (at end : ℕ) → length front ≡ at → at + length run ≡ end → slice_range (front ++ (run ++ rest)) at end ≡ run
 slice_behind front run rest at end is ends =
     let many : length run ≡ end - at = omega arith in
@@ -79,7 +79,7 @@ ends_both at (x ∷ xs) ys =
 pub ends_all : (xs ys : List Bytes) → ends_from 0 (xs ++ ys) ≡ ends_from 0 xs ++ ends_from (length (written xs)) ys
 ends_all xs ys = let same : 0 + length (written xs) ≡ length (written xs) = omega arith in ends_both 0 xs ys ∙ ap (λ n. ends_from 0 xs ++ ends_from n ys) same
 
--- what holds of each string of both
+-- what holds of each string of both lists
 pub all_both : (xs ys : List Bytes) → AllByRecursion CanWriteBytes xs → AllByRecursion CanWriteBytes ys → AllByRecursion CanWriteBytes (xs ++ ys)
 all_both [] ys one two = two
 all_both (x ∷ xs) ys one two = (one.0, all_both xs ys one.1 two)
@@ -104,7 +104,7 @@ moved_ends at taken added (x ∷ xs) =
     let others = ap (λ k. map (λ end. end - taken + added) (ends_from k xs)) from ∙ moved_ends (at + n) taken added xs ∙ ap (λ k. ends_from k xs) to in
     λ i. end i ∷ others i
 
--- each end lies behind where the first begins, and not behind where the last ends
+-- each end is no earlier than where the first string begins, and no later than where the last one ends
 pub ends_between : (low at high : ℕ) (strings : List Bytes) → low ≤ at → at + length (written strings) ≤ high → AllByRecursion (λ end. (low ≤ end) × (end ≤ high)) (ends_from at strings)
 ends_between low at high [] from to = tt
 ends_between low at high (x ∷ xs) from to =
@@ -121,7 +121,7 @@ last_end at (x ∷ y ∷ zs) some =
     let place : length (x ∷ y ∷ zs) - 1 ≡ suc (length (y ∷ zs) - 1) = omega arith in
     ap (λ n. get_or (ends_from at (x ∷ y ∷ zs)) n 0) place ∙ last_end end (y ∷ zs) (omega arith) ∙ omega (arith, written_length x (y ∷ zs))
 
--- where the first of these strings ends, behind those in front of it
+-- where the string after a front begins: at the length of the encoded front
 pub begin_behind : (front back : List Bytes) (place : ℕ) → length front ≡ place → begin_of (ends_from 0 (front ++ back)) place ≡ length (written front)
 begin_behind [] back place many = rw (← many) refl
 begin_behind (x ∷ xs) back place many =
@@ -189,7 +189,7 @@ lies_at strings bytes ends keeps place d lt =
       can = (all_back front (string ∷ back) (subst (AllByRecursion CanWriteBytes) (sym split) keeps.can_write)).0;
     }
 
--- ---- other strings in the place of a run of them
+-- ---- a run of strings is replaced by others
 
 module _ (front mid new back : List Bytes) (bytes : Bytes) (ends : List ℕ) (keeps : Keeps (front ++ (mid ++ back)) bytes ends) where
   bytes_three : bytes ≡ written front ++ (written mid ++ written back)
@@ -223,7 +223,7 @@ module _ (front mid new back : List Bytes) (bytes : Bytes) (ends : List ℕ) (ke
         can_write = all_both front (new ++ back) (all_front front (mid ++ back) keeps.can_write) (all_both new back can (all_back mid back parts));
       }
 
-  -- each end behind the run lies behind as many bytes as it has, and within the buffer
+  -- each end after the run is at least the number of the run's bytes, and within the buffer
   pub ends_last_between : AllByRecursion (λ end. (length (written mid) ≤ end) × (end ≤ length bytes)) (drop (length front + length mid) ends)
   ends_last_between =
       let from = length (written front) in
@@ -231,7 +231,7 @@ module _ (front mid new back : List Bytes) (bytes : Bytes) (ends : List ℕ) (ke
       let total : from + taken + length (written back) ≤ length bytes = omega (arith, ap length bytes_three, length-append (written front) (written mid ++ written back), length-append (written mid) (written back)) in
       subst (AllByRecursion (λ end. (taken ≤ end) × (end ≤ length bytes))) (sym ends_last) (ends_between taken (from + taken) (length bytes) back (omega arith) total)
 
-  -- the ends that move can, where the buffer's new length fits
+  -- the ends after the run can move, if the new length of the buffer fits
   pub can_move : length bytes - length (written mid) + length (written new) < 2 ^ 64 → AllByRecursion (λ end. (length (written mid) ≤ end) × (end - length (written mid) + length (written new) < 2 ^ 64)) (drop (length front + length mid) ends)
   can_move fits = lift (drop (length front + length mid) ends) ends_last_between
     where
@@ -239,7 +239,7 @@ module _ (front mid new back : List Bytes) (bytes : Bytes) (ends : List ℕ) (ke
       lift [] all = tt
       lift (e ∷ es) all = ((all.0.0, omega (arith, fits, all.0.0, all.0.1)), lift es all.1)
 
--- ---- a string that is read
+-- ---- reading a string
 
 -- what is read at a place
 pub reads_at : (strings : List Bytes) (bytes : Bytes) (ends : List ℕ) → Keeps strings bytes ends → (place : ℕ) (d : Bytes) → place < length strings → ReadsBytes (drop (begin_of ends place) bytes) (get_or strings place d) (written (drop (place + 1) strings))
@@ -249,7 +249,7 @@ reads_at strings bytes ends keeps place d lt =
     let back = written (drop (place + 1) strings) in
     subst (λ input. ReadsBytes input string back) (sym lies.there) (Bytes-grammar.read_again string back lies.can tt)
 
--- the string behind another begins where that one ends
+-- the string after another begins where that one ends
 pub next_begin : (ends : List ℕ) (place : ℕ) → begin_of ends (place + 1) ≡ get_or ends place 0
 next_begin ends place = rw (ne_eqb (place + 1) 0 (λ none. absurd (omega arith))) (ap (λ n. get_or ends n 0) (let back : place + 1 - 1 ≡ place = omega arith in back))
 
@@ -261,7 +261,7 @@ one_byte input string rest middle (b ∷ c ∷ []) is encodes parts low = let fi
 one_byte input string rest middle (b ∷ c ∷ d ∷ []) is encodes parts low = let first : get_or input 0 0 ≡ b = ap (λ bytes. get_or bytes 0 0) is in absurd (omega (arith, first, encodes.0))
 one_byte input string rest middle (b ∷ c ∷ d ∷ e ∷ bytes) is encodes parts low = let first : get_or input 0 0 ≡ b = ap (λ bytes. get_or bytes 0 0) is in absurd (omega (arith, first, encodes.1))
 
--- a string with such a length lies behind it
+-- a string whose length takes one byte comes right after that byte
 pub record LiesShort (bytes : Bytes) (start : ℕ) (string rest : Bytes) : Type 0 where
   pub size : length string ≡ get_or bytes start 0
   pub within : start + 1 + get_or bytes start 0 ≤ length bytes

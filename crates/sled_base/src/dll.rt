@@ -1,7 +1,7 @@
 //! A doubly linked list of page ids.
 //!
-//! The cells of the list stand in one vector and name each other by their places in it. So an item is moved or taken out
-//! by its slot in constant time, and that allocates nothing.
+//! The cells of the list are in one vector and refer to each other by their indices. So an item is moved or removed by its slot
+//! in constant time and without an allocation.
 
 ghost use Rattle.std.specs.Prelude.{◌≡◌, ◌↔◌, [], ◌∷◌, ◌++◌, length, List, ℕ, IsTrue, IfOk, OnErr, IfSome, IfNone, Contains, Some};
 ghost use Rattle.sled_base.specs.Dll.{Listed, listed, slots, items, last_slot, AreDistinct, IsPromoted, IsRenewed};
@@ -17,11 +17,13 @@ pub(crate) use optional_slot::OptionalSlot;
 use std::alloc::{AllocError, Global};
 use std::marker::Model;
 
-/// The place of an item in a list, for as long as it is listed.
+/// The place of an item in a list. It is valid as long as the item is listed.
 #[derive(Clone, Copy, Debug, PartialEq, Eq)]
 pub struct Slot(u32);
 
-/// A list of page ids, which grows and shrinks at both ends. It has at most 2^32 - 2 items: for one more, memory counts as out.
+/// A list of page ids, which grows and shrinks at both ends.
+///
+/// It holds at most 2^32 - 2 items. Adding another fails as if an allocation had failed.
 ///
 /// Contracts see its items from the head to the tail, each with its slot.
 #[derive(Drop)]
@@ -42,7 +44,7 @@ impl Model for DoublyLinkedList {
 }
 
 impl DoublyLinkedList {
-    /// An empty list. It allocates nothing.
+    /// Returns an empty list. It allocates nothing.
     pub fn default(alloc: Global) -> DoublyLinkedList
         ensures { result ≡ [] }
     {
@@ -51,14 +53,14 @@ impl DoublyLinkedList {
         }
     }
 
-    /// How many items there are.
+    /// Returns the number of items.
     pub fn len(&self) -> usize
         ensures { result ≡ length self.now }
     {
         self.links.len()
     }
 
-    /// Whether the slot is live: whether an item of the list has it. No two items have the same slot.
+    /// Returns whether the slot is live, that is, whether an item of the list has it. No two items have the same slot.
     pub fn is_live(&self, slot: Slot) -> bool
         ensures live { IsTrue result ↔ Contains (slots self.now) slot }
         ensures distinct { AreDistinct (slots self.now) }
@@ -66,9 +68,10 @@ impl DoublyLinkedList {
         self.links.is_linked(slot)
     }
 
-    /// Adds an item at the head, and answers its slot, which no other item has.
+    /// Adds an item at the head, and returns its slot, which no other item has.
     ///
-    /// It allocates only where no slot is free. An error means out of memory, and leaves the list unchanged.
+    /// It allocates only if no slot is free. An error means that the allocation failed, or that the list is full. It leaves the list
+    /// unchanged.
     pub fn push_head(&mut self, item: PageId) -> Result<Slot, AllocError>
         ensures ok { IfOk result (λ slot. self.new ≡ listed slot item ∷ self.old) }
         ensures fresh { IfOk result (λ slot. ¬ Contains (slots self.old) slot) }
@@ -79,9 +82,10 @@ impl DoublyLinkedList {
         Ok(free)
     }
 
-    /// Adds an item at the tail, and answers its slot, which no other item has.
+    /// Adds an item at the tail, and returns its slot, which no other item has.
     ///
-    /// It allocates only where no slot is free. An error means out of memory, and leaves the list unchanged.
+    /// It allocates only if no slot is free. An error means that the allocation failed, or that the list is full. It leaves the list
+    /// unchanged.
     pub fn push_tail(&mut self, item: PageId) -> Result<Slot, AllocError>
         ensures ok { IfOk result (λ slot. self.new ≡ self.old ++ listed slot item ∷ []) }
         ensures fresh { IfOk result (λ slot. ¬ Contains (slots self.old) slot) }
@@ -92,7 +96,7 @@ impl DoublyLinkedList {
         Ok(free)
     }
 
-    /// Moves the item of the slot to the head, and answers the slot, which it keeps. The slot has to be live.
+    /// Moves the item of the slot to the head, and returns the slot, which the item keeps. The slot must be live.
     ///
     /// It allocates nothing.
     pub fn promote(&mut self, slot: Slot) -> Slot
@@ -110,7 +114,7 @@ impl DoublyLinkedList {
         slot
     }
 
-    /// Puts another item in place of that of the slot, at the head. The slot has to be live.
+    /// Replaces the item of the slot with another, and moves the slot to the head. The slot must be live.
     ///
     /// It allocates nothing.
     pub(crate) fn renew(&mut self, slot: Slot, other: PageId)
@@ -127,7 +131,7 @@ impl DoublyLinkedList {
         self.links.link_head(slot, other);
     }
 
-    /// Removes the item at the tail and answers it, or None where the list is empty. Its slot isn't live any more.
+    /// Removes the item at the tail and returns it, or returns None if the list is empty. The slot of the item is no longer live.
     ///
     /// It allocates nothing.
     pub fn pop_tail(&mut self) -> Option<PageId>
@@ -139,7 +143,7 @@ impl DoublyLinkedList {
         Some(self.links.remove(slot))
     }
 
-    /// Removes the item at the head and answers it, or None where the list is empty. Its slot isn't live any more.
+    /// Removes the item at the head and returns it, or returns None if the list is empty. The slot of the item is no longer live.
     ///
     /// It allocates nothing.
     pub fn pop_head(&mut self) -> Option<PageId>
@@ -151,7 +155,7 @@ impl DoublyLinkedList {
         Some(self.links.remove(slot))
     }
 
-    /// The items from the head to the tail. The only error is out of memory; the list is gone then.
+    /// Returns the items from the head to the tail. The only error is a failed allocation, which drops the list.
     pub fn into_vec(mut self) -> Result<Vec<PageId>, AllocError>
         ensures { IfOk result (λ v. v.items ≡ items self) }
     {
@@ -162,14 +166,14 @@ impl DoublyLinkedList {
         Ok(items)
     }
 
-    /// The slot of the last item, or None where the list is empty.
+    /// Returns the slot of the last item, or None if the list is empty.
     pub fn last(&self) -> Option<Slot>
         ensures { result ≡ last_slot self.now }
     {
         self.links.last()
     }
 
-    /// The slot of the item before that of the slot, on the side of the head, or None where that is the first.
+    /// Returns the slot of the item before that of `slot`, on the side of the head, or None if that item is the first. `slot` must be live.
     pub fn before(&self, slot: Slot) -> Option<Slot>
         requires { Contains (slots self.now) slot }
         ensures { (front back : List Listed) (item : ℕ)
@@ -178,7 +182,7 @@ impl DoublyLinkedList {
         self.links.link(slot).before.get()
     }
 
-    /// The slot in the space of one number.
+    /// Returns the slot in the space of one number. The slot must be live.
     pub(crate) fn packed(&self, slot: Slot) -> OptionalSlot
         requires { Contains (slots self.now) slot }
         ensures { result ≡ Some slot }
@@ -186,7 +190,7 @@ impl DoublyLinkedList {
         self.links.packed(slot)
     }
 
-    /// The item of the slot.
+    /// Returns the item of the slot, which must be live.
     pub fn item(&self, slot: Slot) -> PageId
         requires { Contains (slots self.now) slot }
         ensures { (front back : List Listed) (item : ℕ)

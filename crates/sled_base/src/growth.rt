@@ -1,14 +1,14 @@
-//! How a vector grows that is to leave little memory unused.
+//! How a vector grows so that it leaves little memory unused.
 
 ghost use Rattle.std.specs.Prelude.{◌≡◌, ◌≤◌, ◌+◌, vec_len, vec_capacity, OnOk, IsOk};
 
 use std::alloc::AllocError;
 
-/// Makes room for so many items more.
+/// Makes room for `additional` more items.
 ///
-/// Where there is none, the vector grows by an eighth and eight items at least. So items that are pushed in a row take constant time
-/// each, on average, and of a long vector little more than an eighth of the memory is unused. An error means out of memory, and
-/// leaves the items unchanged.
+/// It allocates only if there is too little room. It then makes room for at least an eighth of the length plus eight items. So a push
+/// takes amortized constant time, and little more than an eighth of a long vector's memory is unused. An error means that the
+/// allocation failed, and leaves the items unchanged.
 pub fn reserve<T>(items: &mut Vec<T>, additional: usize) -> Result<(), AllocError>
     ensures items { items.new.items ≡ items.old.items }
     ensures len { vec_len items.new ≡ vec_len items.old }

@@ -1,4 +1,4 @@
-//! Byte strings that are kept in place where they are short, and shared where they are long.
+//! Byte strings that are stored inline if they are short, and shared if they are long.
 
 ghost use Rattle.std.specs.Prelude.{◌≡◌, ◌↔◌, ◌-◌, ◌<◌, ◌≤◌, [], length, take, drop, nat_eq, IsTrue, IfOk, IsOk, OnErr, Some, refl};
 ghost use Rattle.std.specs.Fn.{FnOnceTakesAtMut, FnOnceReturnsAtMut};
@@ -21,10 +21,10 @@ use std::iter::FromIterator;
 use std::marker::Model;
 use std::sync::Arc;
 
-/// Up to this many bytes are kept in place, without an allocation.
+/// Up to this many bytes are stored inline, without an allocation.
 pub const CUTOFF: usize = 22;
 
-/// A byte string that is cheap to copy: up to [`CUTOFF`] bytes are kept in place, and more are shared.
+/// A byte string that is cheap to clone: up to [`CUTOFF`] bytes are stored inline, and more are shared.
 ///
 /// Contracts see the list of its bytes. Order, equality and hash are those of the bytes.
 #[derive(Drop)]
@@ -42,7 +42,7 @@ impl Model for IVec {
 }
 
 impl IVec {
-    /// A copy of the bytes. Up to [`CUTOFF`] of them need no allocation. An error means that an allocation failed.
+    /// Copies the bytes. Up to [`CUTOFF`] of them need no allocation. An error means that an allocation failed.
     pub fn from_slice(alloc: Global, bytes: &[u8]) -> Result<IVec, AllocError>
         ensures ok { IfOk result (λ v. v ≡ bytes.now) }
         ensures few { length bytes.now ≤ inline_limit → IsOk result }
@@ -54,9 +54,9 @@ impl IVec {
         Ok(IVec::shared(Arc::new(alloc, base)?))
     }
 
-    /// The bytes of a list, which is kept and not copied where they are more than [`CUTOFF`].
+    /// Makes a byte string from a vector, which is kept and not copied if it has more than [`CUTOFF`] bytes.
     ///
-    /// Up to [`CUTOFF`] of them need no allocation. An error means that an allocation failed, and the list is let go.
+    /// Up to [`CUTOFF`] bytes need no allocation. An error means that an allocation failed, and drops the vector.
     pub fn from_vec(alloc: Global, bytes: Vec<u8>) -> Result<IVec, AllocError>
         ensures ok { IfOk result (λ v. v ≡ bytes.items) }
         ensures few { length bytes.items ≤ inline_limit → IsOk result }
@@ -67,7 +67,7 @@ impl IVec {
         Ok(IVec::inline(&bytes))
     }
 
-    /// The bytes of a boxed slice, which is taken as [`IVec::from_vec`] takes a list, with the same error.
+    /// Makes a byte string from a boxed slice, as [`IVec::from_vec`] does from a vector, with the same error.
     pub fn from_box(alloc: Global, bytes: BoxedSlice<u8>) -> Result<IVec, AllocError>
         ensures ok { IfOk result (λ v. v ≡ boxed_slice_items bytes) }
         ensures few { length (boxed_slice_items bytes) ≤ inline_limit → IsOk result }
@@ -75,9 +75,9 @@ impl IVec {
         IVec::from_vec(alloc, bytes.into_vec())
     }
 
-    /// The bytes of a shared list, which stays shared where they are more than [`CUTOFF`].
+    /// Makes a byte string from a shared vector, which stays shared if it has more than [`CUTOFF`] bytes.
     ///
-    /// It allocates nothing and is never refused. The allocator is there as in the other calls of its kind.
+    /// It allocates nothing and never fails. It takes an allocator only to match the other calls of its kind.
     pub fn from_arc(_alloc: Global, bytes: Arc<Vec<u8>>) -> Result<IVec, AllocError>
         ensures ok { IfOk result (λ v. v ≡ (arc_value bytes).items) }
         ensures taken { IsOk result }
@@ -88,7 +88,7 @@ impl IVec {
         Ok(IVec::inline(&bytes))
     }
 
-    /// A copy of the bytes of a text. Up to [`CUTOFF`] of them need no allocation. An error means that an allocation failed.
+    /// Copies the bytes of a text. Up to [`CUTOFF`] of them need no allocation. An error means that an allocation failed.
     pub fn from_str(alloc: Global, text: &str) -> Result<IVec, AllocError>
         ensures ok { IfOk result (λ v. v ≡ text.now) }
         ensures few { length text.now ≤ inline_limit → IsOk result }
@@ -96,7 +96,7 @@ impl IVec {
         IVec::from_slice(alloc, text.as_bytes())
     }
 
-    /// A copy of the bytes of an array. Up to [`CUTOFF`] of them need no allocation. An error means that an allocation failed.
+    /// Copies the bytes of an array. Up to [`CUTOFF`] of them need no allocation. An error means that an allocation failed.
     pub fn from_array<const N: usize>(alloc: Global, bytes: [u8; N]) -> Result<IVec, AllocError>
         ensures ok { IfOk result (λ v. v ≡ bytes.entry) }
         ensures few { N ≤ inline_limit → IsOk result }
@@ -104,7 +104,7 @@ impl IVec {
         IVec::from_slice(alloc, &bytes)
     }
 
-    /// The first `len` bytes of an array, kept in place: `len` is at most [`CUTOFF`]. It allocates nothing.
+    /// Returns the first `len` bytes of an array, stored inline. `len` must be at most [`CUTOFF`]. It allocates nothing.
     pub fn from_front(bytes: [u8; CUTOFF], len: usize) -> IVec
         requires { len ≤ inline_limit }
         ensures { result ≡ take len bytes }
@@ -114,9 +114,9 @@ impl IVec {
         }
     }
 
-    /// `len` bytes from `offset` on, which have to lie within these: `offset + len` is at most [`len`](IVec::len).
+    /// Returns `len` bytes from `offset` on. They must be within the string: `offset + len` is at most [`len`](IVec::len).
     ///
-    /// It allocates nothing: up to [`CUTOFF`] bytes are copied in place and never refused, and more are shared with these. An
+    /// It allocates nothing: up to [`CUTOFF`] bytes are copied inline, which never fails, and more are shared with this string. An
     /// error means that there are more holders than can be counted.
     pub fn subslice(&self, offset: usize, len: usize) -> Result<IVec, AllocError>
         requires start { offset ≤ length self.now }
@@ -134,10 +134,10 @@ impl IVec {
         Ok(IVec::inline(&self.as_slice()[offset..offset + len]))
     }
 
-    /// The bytes, shared. Where these are all the bytes of what is shared, it is that itself, and nothing is allocated; else it
-    /// is a copy.
+    /// Converts the string into a shared vector. If the string is all of a vector that is shared already, that vector is returned,
+    /// and nothing is allocated. Otherwise the bytes are copied.
     ///
-    /// An error means that the copy could not be allocated, and the bytes are let go.
+    /// An error means that the copy could not be allocated, and drops the string.
     pub fn into_arc(self, alloc: Global) -> Result<Arc<Vec<u8>>, AllocError>
         ensures { IfOk result (λ a. (arc_value a).items ≡ self) }
     {
@@ -148,7 +148,7 @@ impl IVec {
         }
     }
 
-    /// The bytes, lent.
+    /// Borrows the bytes.
     pub fn as_slice(&self) -> &[u8]
         ensures { result.now ≡ self.now }
     {
@@ -158,11 +158,11 @@ impl IVec {
         }
     }
 
-    /// What `f` answers, which is lent the bytes to write. How many there are stays.
+    /// Calls `f` with the bytes, which it may overwrite, and returns what `f` returns. The length doesn't change.
     ///
-    /// Nobody else sees what is written. Up to [`CUTOFF`] bytes, and more that nobody else holds, are written in
-    /// place. The others are copied first. An error means that the copy could not be allocated: then `f` isn't called,
-    /// and the bytes are as before.
+    /// No other holder of the bytes sees what is written. Up to [`CUTOFF`] bytes, and more that have no other holder, are written
+    /// in place. Others are copied first. An error means that the copy could not be allocated. In that case `f` isn't called,
+    /// and the bytes are unchanged.
     pub fn write_with<R, F: FnOnce(&mut [u8]) -> R>(
         &mut self,
         alloc: Global,
@@ -181,21 +181,21 @@ impl IVec {
         }
     }
 
-    /// How many bytes there are.
+    /// Returns the number of bytes.
     pub fn len(&self) -> usize
         ensures { result ≡ length self.now }
     {
         self.as_slice().len()
     }
 
-    /// Whether there are no bytes.
+    /// Returns whether there are no bytes.
     pub fn is_empty(&self) -> bool
         ensures { IsTrue result ↔ (self.now ≡ []) }
     {
         self.as_slice().is_empty()
     }
 
-    /// Whether these are the bytes.
+    /// Returns whether the string consists of these bytes.
     pub fn eq_bytes(&self, bytes: &[u8]) -> bool
         ensures { IsTrue result ↔ (self.now ≡ bytes.now) }
     {
@@ -226,7 +226,7 @@ impl FromIterator<u8> for IVec {
 
     ghost from_iter_gives = { λ bytes v. v ≡ bytes };
 
-    /// The bytes that come, in their order. They are first put into a list. An error means that an allocation failed.
+    /// Collects the bytes in their order, first into a vector. An error means that an allocation failed.
     fn from_iter<U: IntoIterator<Item = u8>>(alloc: Global, iter: U) -> Result<IVec, AllocError> {
         IVec::from_vec(alloc, Vec::from_iter(alloc, iter)?)
     }
@@ -235,7 +235,7 @@ impl FromIterator<u8> for IVec {
 impl Default for IVec {
     ghost is_default = { λ v. v ≡ [] };
 
-    /// No bytes. It allocates nothing.
+    /// Returns the empty string. It allocates nothing.
     fn default() -> IVec {
         IVec::inline(&[])
     }
@@ -249,7 +249,7 @@ impl Clone for IVec {
 
     ghost is_infallible = { IsShort };
 
-    /// The same bytes. It allocates nothing: up to [`CUTOFF`] bytes are copied in place and never refused, and more are shared.
+    /// Returns the same bytes. It allocates nothing: up to [`CUTOFF`] bytes are copied inline, which never fails, and more are shared.
     ///
     /// An error means that there are more holders than can be counted.
     fn clone(&self) -> Result<IVec, AllocError> {

@@ -1,4 +1,4 @@
-//! How the bytes of a string are kept: a short string in place, and a long one as a part of what is shared.
+//! How the bytes of a string are stored: a short string inline, and a long one as a part of a shared vector.
 
 ghost use Rattle.std.specs.Prelude.{◌≡◌, ◌+◌, ◌<◌, ◌≤◌, length, take, drop, IfOk, OnErr};
 ghost use Rattle.std.specs.Fn.{FnOnceTakesAtMut, FnOnceReturnsAtMut};
@@ -24,7 +24,7 @@ pub(crate) struct Short {
     ghost short: { len ≤ inline_limit },
 }
 
-/// More than [`CUTOFF`] bytes: `len` of those that are shared, from `offset` on.
+/// More than [`CUTOFF`] bytes: `len` bytes of a shared vector, from `offset` on.
 #[derive(Drop)]
 pub(crate) struct Part {
     base: Arc<Vec<u8>>,
@@ -37,7 +37,7 @@ pub(crate) struct Part {
 impl Short {
     ghost use Rattle.sled_base.specs.Kept.{short_bytes};
 
-    /// A copy of the bytes.
+    /// Copies the bytes. There must be at most [`CUTOFF`].
     pub(crate) fn new(from: &[u8]) -> Short
         requires { length from.now ≤ inline_limit }
         ensures { short_bytes result ≡ from.now }
@@ -47,7 +47,7 @@ impl Short {
         Short::front(bytes, from.len())
     }
 
-    /// The first bytes of an array.
+    /// Returns the first `len` bytes of an array. `len` must be at most [`CUTOFF`].
     pub(crate) fn front(bytes: [u8; CUTOFF], len: usize) -> Short
         requires { len ≤ inline_limit }
         ensures { short_bytes result ≡ take len bytes }
@@ -58,14 +58,14 @@ impl Short {
         }
     }
 
-    /// The bytes, lent.
+    /// Borrows the bytes.
     pub(crate) fn as_slice(&self) -> &[u8]
         ensures { result.now ≡ short_bytes self.now }
     {
         &self.bytes[..self.len as usize]
     }
 
-    /// What `f` answers, which is lent the bytes to write.
+    /// Calls `f` with the bytes, which it may overwrite, and returns what `f` returns.
     pub(crate) fn write_with<R, F: FnOnce(&mut [u8]) -> R>(&mut self, f: F) -> R
         requires { FnOnceTakesAtMut F.FnOnce f (short_bytes self.old) }
         ensures written { FnOnceReturnsAtMut F.FnOnce f (short_bytes self.old) result
@@ -79,7 +79,7 @@ impl Short {
 impl Part {
     ghost use Rattle.sled_base.specs.Kept.{part_bytes};
 
-    /// All that is shared.
+    /// Returns all bytes of a shared vector, which must have more than [`CUTOFF`].
     pub(crate) fn whole(base: Arc<Vec<u8>>) -> Part
         requires { inline_limit < length (arc_value base).items }
         ensures { part_bytes result ≡ (arc_value base).items }
@@ -92,14 +92,16 @@ impl Part {
         }
     }
 
-    /// The bytes, lent.
+    /// Borrows the bytes.
     pub(crate) fn as_slice(&self) -> &[u8]
         ensures { result.now ≡ part_bytes self.now }
     {
         &self.base[self.offset..self.offset + self.len]
     }
 
-    /// `len` bytes from `offset` on, which are shared with these.
+    /// Returns `len` bytes from `offset` on, shared with these. They must be within these, and more than [`CUTOFF`].
+    ///
+    /// An error means that there are more holders than can be counted.
     pub(crate) fn part(&self, offset: usize, len: usize) -> Result<Part, AllocError>
         requires long { inline_limit < len }
         requires within { offset + len ≤ length (part_bytes self.now) }
@@ -112,7 +114,7 @@ impl Part {
         })
     }
 
-    /// What `f` answers, which is lent the bytes to write. They are copied first where others hold them too.
+    /// Calls `f` with the bytes, which it may overwrite, and returns what `f` returns. If others hold the bytes too, they are copied first.
     pub(crate) fn write_with<R, F: FnOnce(&mut [u8]) -> R>(
         &mut self,
         alloc: Global,
@@ -138,7 +140,7 @@ impl Part {
         Ok(())
     }
 
-    /// The bytes, shared. Where these are all that is shared, it is that itself, and else a copy.
+    /// Converts the bytes into a shared vector: the vector that is shared already if they are all of it, and otherwise a copy.
     pub(crate) fn into_arc(self, alloc: Global) -> Result<Arc<Vec<u8>>, AllocError>
         ensures { IfOk result (λ a. (arc_value a).items ≡ part_bytes self) }
     {
@@ -181,7 +183,7 @@ fn write_part<R, F: FnOnce(&mut [u8]) -> R>(
     }
 }
 
-/// A copy of the bytes, to be shared.
+/// Copies the bytes into a new shared vector.
 pub(crate) fn shared_copy(alloc: Global, bytes: &[u8]) -> Result<Arc<Vec<u8>>, AllocError>
     ensures { IfOk result (λ a. (arc_value a).items ≡ bytes.now) }
 {

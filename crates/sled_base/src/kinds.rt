@@ -5,10 +5,10 @@ ghost use Rattle.sled_base.specs.Kinds.{kind_of, byte_of, log_kind_of};
 
 /// The kind of a message, which is one byte in a log.
 ///
-/// A log may keep the payload of an inline kind as a blob, and then has the blob kind of the same name.
+/// A log may store the payload of an inline kind as a blob. The message then has the blob kind of the same name.
 #[derive(Clone, Copy, Debug, PartialEq, Eq)]
 pub enum MessageKind {
-    /// No message that a cache writes; all other bytes are read as this kind.
+    /// A message that no cache writes. All bytes above 11 are read as this kind too.
     Corrupted = 0,
     /// A message of a batch that was cancelled.
     Canceled = 1,
@@ -66,13 +66,13 @@ impl From<MessageKind> for u8 {
 /// What a message does to its page.
 #[derive(Clone, Copy, Debug, PartialEq, Eq)]
 pub enum LogKind {
-    /// No message that a cache writes.
+    /// A message that no cache writes.
     Corrupted,
     /// Nothing.
     Skip,
     /// The page becomes free.
     Free,
-    /// The page holds what the message has.
+    /// The content of the page is replaced by that of the message.
     Replace,
     /// A link is applied to the node of the page.
     Link,

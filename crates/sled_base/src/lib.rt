@@ -1,17 +1,17 @@
-//! The base of the page cache: byte strings, the plain types that every layer names, and how plain values are encoded.
+//! The base of the page cache: byte strings, the plain types that every layer uses, and how plain values are encoded.
 //!
 //! In reading order:
 //!
-//! - `types`: the plain types that every layer names, and the error of the page cache
+//! - `types`: the plain types that every layer uses, and the error of the page cache
 //! - `kinds`: the kinds of the messages in a log
-//! - `kept`, `ivec`: byte strings, in place where they are short, and shared where they are long
+//! - `kept`, `ivec`: byte strings, inline if they are short, and shared if they are long
 //! - `search`, `prefix`: searches in sorted keys, and keys without the prefix that they share
-//! - `serialization`: payloads: values as bytes, and back
-//! - `moves`, `strings`: bytes that move up or down in a buffer, and byte strings in one
-//! - `growth`: how a vector grows that is to leave little memory unused
+//! - `serialization`: payloads: how values are encoded as bytes, and decoded
+//! - `moves`, `strings`: moving bytes up or down in a buffer, and byte strings in one buffer
+//! - `growth`: how a vector grows so that it leaves little memory unused
 //! - `dll`: a doubly linked list of page ids
-//! - `lru`: pages by their recent use, and which of them leave where they exceed a capacity together
-//! - `laws`: what holds of the definitions that contracts cite
+//! - `lru`: pages by their recent use, and which of them are evicted when together they exceed a capacity
+//! - `laws`: laws of the definitions that contracts cite
 #![tactic(auto)]
 
 pub mod dll;

@@ -1,7 +1,7 @@
-//! Pages by their recent use, and which of them leave where they exceed a capacity together.
+//! Pages by their recent use, and which of them are evicted when together they exceed a capacity.
 //!
-//! The pages are spread over 256 shards by their ids. Each shard has an equal part of the capacity, and lists its pages from
-//! the most recently used on. It lists at most 2^32 - 2 pages: for one more, memory counts as out.
+//! The pages are spread over 256 shards by their ids. Each shard has an equal part of the capacity, and lists its pages with the
+//! most recently used first. It lists at most 2^32 - 2 pages. Adding another fails as if an allocation had failed.
 
 ghost use Rattle.std.specs.Prelude.{◌≡◌, ◌<◌, ◌≤◌, ◌+◌, ◌*◌, ◌^◌, map, All, IfOk, IfErr, IsOk, OnOk, OnErr, Ok, Err};
 ghost use Rattle.sled_base.specs.Limits.{shard_count, exponent_count};
@@ -18,7 +18,7 @@ use std::marker::Model;
 // How many shards there are.
 pub(crate) const SHARDS: u64 = 256;
 
-/// Pages with their sizes, in each shard from the most recently used on.
+/// Pages with their sizes, in each shard the most recently used first.
 #[derive(Drop)]
 pub struct Lru {
     capacity: u64,
@@ -39,9 +39,9 @@ impl Model for Lru {
 }
 
 impl Lru {
-    /// A cache that lists no page yet. The capacity is that of all shards together.
+    /// Returns a list of recent use that has no page yet. The capacity is that of all shards together.
     ///
-    /// `CapacityTooSmall` is the error of a capacity below 256. Any other has one error, `OutOfMemory`.
+    /// A capacity below 256 is refused with `CapacityTooSmall`. For any other the only error is `OutOfMemory`.
     pub fn new(alloc: Global, capacity: u64) -> Result<Lru, Error>
         ensures too_small { capacity < shard_count
             → result ≡ Err (Error.Unsupported Why.CapacityTooSmall) }
@@ -59,11 +59,12 @@ impl Lru {
         Ok(Lru { capacity, shards })
     }
 
-    /// Makes a page the first of its shard, with its size rounded up to a power of two, and answers the pages that leave.
+    /// Makes a page the most recently used of its shard, with its size rounded up to a power of two, and returns the pages that it evicts.
     ///
-    /// Pages leave from the least recently used on, as long as the shard's pages exceed its part of the capacity together; the
-    /// page itself stays, however large it is. The size is at most 2^63. An error means out of memory, and leaves every
-    /// shard unchanged. An access of a page that is listed with its present rounded size allocates nothing.
+    /// It evicts the least recently used page of the shard as long as the shard's pages together exceed its part of the capacity. It
+    /// never evicts the accessed page, however large that is. The size must be at most 2^63. An error means that an allocation
+    /// failed, or that the shard is full. It leaves every shard unchanged. Accessing a page that is already listed with the same
+    /// rounded size allocates nothing and never fails.
     pub fn accessed(&mut self, id: PageId, size: u64) -> Result<Vec<PageId>, AllocError>
         requires { size ≤ 2 ^ 63 }
         ensures accessed { IfOk result
@@ -77,8 +78,9 @@ impl Lru {
         Ok(gone)
     }
 
-    /// The same, and the pages that leave are put into a list, in place of what it held, whose memory is used again. An error leaves what
-    /// the list held.
+    /// Accesses a page as [`accessed`](Lru::accessed) does, and puts the evicted pages into a vector.
+    ///
+    /// They replace what the vector held, and its memory is reused. An error leaves its items and every shard unchanged.
     pub fn access(
         &mut self,
         id: PageId,
@@ -101,7 +103,7 @@ impl Lru {
     }
 }
 
-/// The size as a list of recent use counts it: rounded up to a power of two. It is at most 2^63.
+/// Returns the size as a list of recent use counts it: rounded up to a power of two. The size must be at most 2^63, and so is the result.
 pub fn rounded_up(size: u64) -> u64
     requires { size ≤ 2 ^ 63 }
     ensures value { result ≡ rounded size }

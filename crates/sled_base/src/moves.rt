@@ -1,4 +1,4 @@
-//! Bytes that move up or down where they lie.
+//! Moving bytes up or down in a buffer.
 
 ghost use Rattle.std.specs.Prelude.{◌≡◌, ◌+◌, ◌-◌, ◌≤◌, ◌++◌, length, take, drop};
 

@@ -11,16 +11,16 @@ use crate::strings::Strings;
 use std::alloc::{AllocError, Global};
 use std::cmp::Ordering;
 
-/// No bytes. It allocates nothing.
+/// Returns the empty byte string. It allocates nothing.
 pub fn empty() -> IVec
     ensures { result ≡ [] }
 {
     IVec::default()
 }
 
-/// The whole key: the prefix and then the key that is kept without it.
+/// Returns the whole key: the prefix, followed by the key that is stored without it.
 ///
-/// Up to [`CUTOFF`] bytes together need no allocation. An error means that an allocation failed.
+/// Up to [`CUTOFF`] bytes in total need no allocation. An error means that an allocation failed.
 pub fn decode(alloc: Global, prefix: &[u8], key: &[u8]) -> Result<IVec, AllocError>
     ensures ok { IfOk result (λ whole. whole ≡ prefix.now ++ key.now) }
     ensures few { length (prefix.now ++ key.now) ≤ inline_limit → IsOk result }
@@ -48,9 +48,9 @@ fn decode_few(alloc: Global, prefix: &[u8], key: &[u8]) -> Result<IVec, AllocErr
     IVec::from_slice(alloc, &whole[..len])
 }
 
-/// The whole key without its first `n` bytes, as it is kept under a prefix of so many. It is empty if there are fewer.
+/// Returns the whole key, the prefix followed by `key`, without its first `n` bytes. It is empty if there are fewer.
 ///
-/// Up to [`CUTOFF`] bytes need no allocation. An error means that an allocation failed.
+/// So it is stored under a prefix of `n` bytes. Up to [`CUTOFF`] bytes need no allocation. An error means that an allocation failed.
 pub fn reencode(alloc: Global, prefix: &[u8], key: &[u8], n: usize) -> Result<IVec, AllocError>
     ensures ok { IfOk result (λ rest. rest ≡ drop n (prefix.now ++ key.now)) }
     ensures few { length (drop n (prefix.now ++ key.now)) ≤ inline_limit → IsOk result }
@@ -60,16 +60,16 @@ pub fn reencode(alloc: Global, prefix: &[u8], key: &[u8], n: usize) -> Result<IV
     decode(alloc, &prefix[front..], &key[back..])
 }
 
-/// How the first bytes stand to the second: the first byte that differs decides, else the shorter is less.
+/// Compares two byte strings: the first byte that differs decides, and otherwise the shorter one is less.
 pub fn fastcmp(l: &[u8], r: &[u8]) -> Ordering
     ensures { result ≡ bytes_cmp l.now r.now }
 {
     l.cmp(&r)
 }
 
-/// The greatest place whose item equals the key. Where none does, the error is how many items are below the key.
+/// Returns the greatest index whose item equals the key. If none does, the error is the number of items below the key.
 ///
-/// The items have to ascend, as [`is_sorted`](crate::search::is_sorted) tests, and there may be doubles. It allocates nothing.
+/// The items must ascend, as [`is_sorted`](crate::search::is_sorted) tests, and may be equal. It allocates nothing.
 pub fn binary_search(key: &[u8], s: &[IVec]) -> Result<usize, usize>
     requires { IsSorted s.now }
     ensures found { IfOk result (IsLastEqual key.now s.now) }
@@ -79,9 +79,9 @@ pub fn binary_search(key: &[u8], s: &[IVec]) -> Result<usize, usize>
     last_equal(key, s)
 }
 
-/// The greatest place whose item isn't above the key, or None where every item is above.
+/// Returns the greatest index whose item isn't above the key, or None if every item is above it.
 ///
-/// The items have to ascend, as [`is_sorted`](crate::search::is_sorted) tests, and there may be doubles. It allocates nothing.
+/// The items must ascend, as [`is_sorted`](crate::search::is_sorted) tests, and may be equal. It allocates nothing.
 pub fn binary_search_lub(key: &[u8], s: &[IVec]) -> Option<usize>
     requires { IsSorted s.now }
     ensures found { IfSome result (IsLastAtMost key.now s.now) }
@@ -90,9 +90,9 @@ pub fn binary_search_lub(key: &[u8], s: &[IVec]) -> Option<usize>
     last_at_most(key, s)
 }
 
-/// [`binary_search`] among the first `count` of the strings in one buffer, which holds at least so many.
+/// Searches the first `count` strings in one buffer as [`binary_search`] does. The buffer must hold at least `count` strings.
 ///
-/// They have to ascend, as [`spans_are_sorted`] tests, and there may be doubles. It allocates nothing.
+/// They must ascend, as [`spans_are_sorted`] tests, and may be equal. It allocates nothing.
 pub fn search_spans(key: &[u8], strings: &Strings, count: usize) -> Result<usize, usize>
     requires within { count ≤ length strings.now }
     requires sorted { IsSorted (take count strings.now) }
@@ -107,7 +107,7 @@ pub fn search_spans(key: &[u8], strings: &Strings, count: usize) -> Result<usize
     }
 }
 
-/// Whether the first `count` of the strings in one buffer, which holds at least so many, ascend. There may be doubles.
+/// Returns whether the first `count` strings in one buffer ascend. They may be equal. The buffer must hold at least `count` strings.
 ///
 /// It compares each string with the next, and allocates nothing.
 pub fn spans_are_sorted(strings: &Strings, count: usize) -> bool

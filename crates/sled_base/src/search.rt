@@ -1,4 +1,4 @@
-//! Searches in sorted slices of what has a key.
+//! Searches in sorted slices of items with keys.
 
 ghost use Rattle.std.specs.Prelude.{◌≡◌, ◌≢◌, ◌↔◌, ◌≤◌, length, map, All, IsTrue, IfSome, IfNone, IfOk, IfErr, OnErr};
 ghost use Rattle.sled_base.specs.Order.{IsBelow};
@@ -7,13 +7,13 @@ ghost use Rattle.sled_base.specs.Searches.{IsSorted, IsCountAtMost, IsLastAtMost
 use crate::ivec::IVec;
 use crate::prefix::fastcmp;
 
-/// What is sorted and searched by a key: a key itself, or a pair of a key and what belongs to it.
+/// A type that is sorted and searched by a key: a key itself, or a pair of a key and what belongs to it.
 pub trait Keyed {
     ghost use Rattle.std.specs.Prelude.{List, ℕ};
 
     ghost key_of: { Self → List ℕ };
 
-    /// The bytes of the key, lent.
+    /// Borrows the bytes of the key.
     fn key(&self) -> &[u8]
         ensures { result.now ≡ key_of self.now };
 }
@@ -34,7 +34,7 @@ impl<V> Keyed for (IVec, V) {
     }
 }
 
-/// Whether the keys of the items ascend, so that the items can be searched. There may be doubles.
+/// Returns whether the keys of the items ascend, so that the items can be searched. Keys may be equal.
 ///
 /// It compares each key with the next, and allocates nothing.
 pub fn is_sorted<T: Keyed>(items: &[T]) -> bool
@@ -43,9 +43,9 @@ pub fn is_sorted<T: Keyed>(items: &[T]) -> bool
     items.is_sorted_by(|key, next| fastcmp(key.key(), next.key()).is_le())
 }
 
-/// How many items aren't above the key, found by halving. They stand before those that are.
+/// Returns how many items aren't above the key, by binary search. They come before those that are.
 ///
-/// The keys of the items have to ascend, as [`is_sorted`] tests, and there may be doubles.
+/// The keys of the items must ascend, as [`is_sorted`] tests, and may be equal.
 pub fn count_at_most<T: Keyed>(key: &[u8], items: &[T]) -> usize
     requires { IsSorted (map T.key_of items.now) }
     ensures bound { result ≤ length items.now }
@@ -54,9 +54,9 @@ pub fn count_at_most<T: Keyed>(key: &[u8], items: &[T]) -> usize
     items.partition_point(|item| fastcmp(item.key(), key).is_le())
 }
 
-/// The greatest place whose item isn't above the key, or None where every item is above.
+/// Returns the greatest index whose item isn't above the key, or None if every item is above it.
 ///
-/// The keys of the items have to ascend, as [`is_sorted`] tests, and there may be doubles.
+/// The keys of the items must ascend, as [`is_sorted`] tests, and may be equal.
 pub fn last_at_most<T: Keyed>(key: &[u8], items: &[T]) -> Option<usize>
     requires { IsSorted (map T.key_of items.now) }
     ensures found { IfSome result (IsLastAtMost key.now (map T.key_of items.now)) }
@@ -65,9 +65,9 @@ pub fn last_at_most<T: Keyed>(key: &[u8], items: &[T]) -> Option<usize>
     count_at_most(key, items).checked_sub(1)
 }
 
-/// The greatest place whose item equals the key. Where none does, the error is how many items are below the key.
+/// Returns the greatest index whose item equals the key. If none does, the error is the number of items below the key.
 ///
-/// The keys of the items have to ascend, as [`is_sorted`] tests, and there may be doubles.
+/// The keys of the items must ascend, as [`is_sorted`] tests, and may be equal.
 pub fn last_equal<T: Keyed>(key: &[u8], items: &[T]) -> Result<usize, usize>
     requires { IsSorted (map T.key_of items.now) }
     ensures found { IfOk result (IsLastEqual key.now (map T.key_of items.now)) }

@@ -1,4 +1,4 @@
-//! Byte strings in one buffer, one after the other, each with its length before it, as payloads have them.
+//! Byte strings in one buffer, one after the other, each preceded by its length, as in payloads.
 
 ghost use Rattle.std.specs.Prelude.{◌≡◌, ◌↔◌, ◌+◌, ◌<◌, ◌≤◌, ◌^◌, [], ◌∷◌, ◌++◌, length, take, drop, Some, IsTrue, IfSome, IfOk, OnOk, OnErr, slice_get};
 ghost use Rattle.std.specs.List.{flat_map, AllByRecursion, HoldsAt};
@@ -35,7 +35,7 @@ impl Model for Strings {
 }
 
 impl Strings {
-    /// No strings. It allocates nothing.
+    /// Returns an empty list of strings. It allocates nothing.
     pub fn new(alloc: Global) -> Strings
         ensures { result ≡ [] }
     {
@@ -45,7 +45,9 @@ impl Strings {
         }
     }
 
-    /// So many strings at the front of an input, if each has a length of one byte. They are copied as they lie there.
+    /// Reads `count` strings from the front of an input, and copies their bytes as they are.
+    ///
+    /// Returns None if the input doesn't begin with that many strings, or if the length of one takes more than one byte.
     ///
     /// An error means that an allocation failed.
     pub fn read_plain(
@@ -57,28 +59,29 @@ impl Strings {
             (λ found. IfSome found (λ strings. BeginsWith count strings input.now)) }
     {
         let mut ends = Vec::with_capacity(alloc, count)?;
-        let mut at = 0;
+        let mut rest = input;
         for _ in 0..count {
-            let Some(end) = plain_end(input, at) else {
+            let Some(behind) = behind_plain(rest) else {
                 return Ok(None);
             };
-            ends.push(end)?;
-            at = end;
+            rest = behind;
+            ends.push_reserved(input.len() - rest.len());
         }
+        let end = input.len() - rest.len();
         Ok(Some(Strings {
-            bytes: Vec::from_slice(alloc, &input[..at])?,
+            bytes: Vec::from_slice(alloc, &input[..end])?,
             ends,
         }))
     }
 
-    /// How many strings there are.
+    /// Returns the number of strings.
     pub fn len(&self) -> usize
         ensures { result ≡ length self.now }
     {
         self.ends.len()
     }
 
-    /// The strings as they are written, one after the other.
+    /// Returns the encoded strings, one after the other.
     pub fn written(&self) -> &[u8]
         ensures value { result.now ≡ flat_map written_bytes self.now }
         ensures each { AllByRecursion CanWriteBytes self.now }
@@ -86,7 +89,7 @@ impl Strings {
         &self.bytes
     }
 
-    /// The string at a place.
+    /// Returns the string at a place, which must be below [`len`](Strings::len).
     pub fn get(&self, place: usize) -> &[u8]
         requires { place < length self.now }
         ensures { slice_get self.now place ≡ Some result.now }
@@ -94,7 +97,7 @@ impl Strings {
         string_at(&self.bytes, &self.ends, place)
     }
 
-    /// The string behind that at a place.
+    /// Returns the string after the one at a place. There must be one: `place + 1` is below [`len`](Strings::len).
     pub fn get_next(&self, place: usize) -> &[u8]
         requires { place + 1 < length self.now }
         ensures { slice_get self.now (place + 1) ≡ Some result.now }
@@ -102,19 +105,21 @@ impl Strings {
         string_behind(&self.bytes, &self.ends, place)
     }
 
-    /// What the strings' memory comes from.
+    /// Returns the allocator of the strings.
     pub fn allocator(&self) -> Global {
         *self.bytes.allocator()
     }
 
-    /// Whether these are the same strings.
+    /// Returns whether both have the same strings.
     pub fn is_same(&self, other: &Strings) -> bool
         ensures { IsTrue result ↔ (self.now ≡ other.now) }
     {
         self.bytes == other.bytes && self.ends == other.ends
     }
 
-    /// Puts a string in at a place. An error means that an allocation failed, and leaves the strings.
+    /// Inserts a string at a place. The place must be at most [`len`](Strings::len), and the string shorter than 2^32 bytes.
+    ///
+    /// An error means that an allocation failed, and leaves the strings unchanged.
     pub fn insert(&mut self, place: usize, string: &[u8]) -> Result<(), AllocError>
         requires within { place ≤ length self.old }
         requires short { length string.now < 2 ^ 32 }
@@ -125,7 +130,7 @@ impl Strings {
         insert(&mut self.bytes, &mut self.ends, place, string)
     }
 
-    /// Puts a string behind the others. An error means that an allocation failed, and leaves the strings.
+    /// Appends a string, which must be shorter than 2^32 bytes. An error means that an allocation failed, and leaves the strings unchanged.
     pub fn push(&mut self, string: &[u8]) -> Result<(), AllocError>
         requires { length string.now < 2 ^ 32 }
         ensures ok { OnOk result (self.new ≡ self.old ++ string.now ∷ []) }
@@ -134,8 +139,10 @@ impl Strings {
         push(&mut self.bytes, &mut self.ends, string)
     }
 
-    /// Puts two strings in, `string` at `place` and `other` at `later`, which isn't before it: both are places among the
-    /// strings as they are. An error means that an allocation failed, and leaves the strings.
+    /// Inserts two strings: `string` at `place`, and `other` at `later`. Each must be shorter than 2^32 bytes.
+    ///
+    /// Both are places among the strings as they were before the call: `later` isn't before `place`, and is at most
+    /// [`len`](Strings::len). An error means that an allocation failed, and leaves the strings unchanged.
     pub fn insert_both(
         &mut self,
         place: usize,
@@ -160,7 +167,7 @@ impl Strings {
         Ok(())
     }
 
-    /// Takes the string at a place out. It allocates nothing.
+    /// Removes the string at a place, which must be below [`len`](Strings::len). It allocates nothing.
     pub fn remove(&mut self, place: usize)
         requires { place < length self.old }
         ensures { self.new ≡ take place self.old ++ drop (place + 1) self.old }
@@ -168,7 +175,8 @@ impl Strings {
         remove(&mut self.bytes, &mut self.ends, place)
     }
 
-    /// Takes two strings out, at `place` and, behind it, at `later`. It allocates nothing.
+    /// Removes the strings at `place` and at `later`. Both are places among the strings before the call: `later` must be after `place`
+    /// and below [`len`](Strings::len). It allocates nothing.
     pub fn remove_both(&mut self, place: usize, later: usize)
         requires order { place < later }
         requires within { later < length self.old }
@@ -178,7 +186,9 @@ impl Strings {
         self.remove(place);
     }
 
-    /// Puts a string in the place of another. An error means that an allocation failed, and leaves the strings.
+    /// Replaces the string at a place, which must be below [`len`](Strings::len). The new one must be shorter than 2^32 bytes.
+    ///
+    /// An error means that an allocation failed, and leaves the strings unchanged.
     pub fn replace(&mut self, place: usize, string: &[u8]) -> Result<(), AllocError>
         requires within { place < length self.old }
         requires short { length string.now < 2 ^ 32 }
@@ -195,7 +205,7 @@ impl Clone for Strings {
 
     ghost is_clone = { λ v w. w ≡ v };
 
-    /// The same strings. An error means that an allocation failed.
+    /// Copies the strings. An error means that an allocation failed.
     fn clone(&self) -> Result<Strings, AllocError> {
         Ok(Strings {
             bytes: self.bytes.clone()?,
@@ -257,13 +267,12 @@ fn long_string(bytes: &Vec<u8>, start: usize) -> &[u8]
     }
 }
 
-// Where a string ends that begins at a place of an input with a length of one byte, if one does.
-fn plain_end(input: &[u8], at: usize) -> Option<usize>
-    requires { at ≤ length input.now }
-    ensures { IfSome result (IsPlain input.now at) }
+// What stands behind the string that an input begins with, if its length takes one byte.
+fn behind_plain(input: &[u8]) -> Option<&[u8]>
+    ensures { IfSome result (λ behind. IsPlain input.now behind.now) }
 {
-    match &input[at..] {
-        [len @ 0..=240, rest @ ..] if *len as usize <= rest.len() => Some(at + 1 + *len as usize),
+    match input {
+        [len @ 0..=240, rest @ ..] if *len as usize <= rest.len() => Some(&rest[*len as usize..]),
         _ => None,
     }
 }

@@ -1,4 +1,4 @@
-//! The plain types that every layer names, and the error of the page cache.
+//! The plain types that every layer uses, and the error of the page cache.
 
 ghost use Rattle.std.specs.Prelude.{◌≡◌, ◌↔◌, IsTrue};
 ghost use Rattle.sled_base.specs.Errors.{error_of, number_of_why, number_of_bug};
@@ -15,7 +15,7 @@ use thiserror::Error;
 /// The number of a page.
 pub type PageId = u64;
 
-/// A place in a log, in bytes from its front.
+/// A place in a log, in bytes from its start.
 pub type LogOffset = u64;
 
 /// The number of a segment of a log.
@@ -27,11 +27,11 @@ pub type Lsn = i64;
 /// The place of the message that first held a blob, as an [`Lsn`].
 pub type BlobPointer = i64;
 
-/// What the mark of a batch in a log holds: the place of the batch's last record.
+/// The content of the mark of a batch in a log: the place of the batch's last record.
 #[derive(Clone, Copy, Debug, Default, PartialEq, Eq, PartialOrd, Ord)]
 pub struct BatchManifest(pub Lsn);
 
-/// Where a message stands in a log, and whether its payload is a blob.
+/// The place of a message in a log, and whether its payload is a blob.
 #[derive(Clone, Copy, Debug, PartialEq, Eq)]
 pub enum DiskPtr {
     /// The message at this place holds its payload.
@@ -41,7 +41,7 @@ pub enum DiskPtr {
 }
 
 impl DiskPtr {
-    /// The place of the message.
+    /// Returns the place of the message.
     pub fn lid(self) -> LogOffset
         ensures { result ≡ offset_of self }
     {
@@ -50,14 +50,14 @@ impl DiskPtr {
         }
     }
 
-    /// Whether the payload is a blob.
+    /// Returns whether the payload is a blob.
     pub fn is_blob(self) -> bool
         ensures { IsTrue result ↔ IsBlob self }
     {
         matches!(self, DiskPtr::Blob(_, _))
     }
 
-    /// The place of the message and the pointer to its blob, where [`is_blob`](DiskPtr::is_blob) holds.
+    /// Returns the place of the message and the pointer to its blob. [`is_blob`](DiskPtr::is_blob) must hold.
     pub fn blob(self) -> (LogOffset, BlobPointer)
         requires { IsBlob self }
         ensures { IsBlobAt self result.0 result.1 }
@@ -69,10 +69,10 @@ impl DiskPtr {
     }
 }
 
-/// Why a call is not supported as it was made. Its number is the one that `Display` shows.
+/// The reason why a call isn't supported as it was made. The `Display` text of the error shows its number.
 #[derive(Clone, Copy, Debug, PartialEq, Eq)]
 pub enum Why {
-    /// The page is the cache's own.
+    /// The page is reserved for the cache itself.
     ReservedId = 1,
     /// The capacity of the cache is below 256.
     CapacityTooSmall = 2,
@@ -94,12 +94,12 @@ pub enum Why {
     NameTooLong = 10,
     /// The log has no room for the message.
     LogFull = 11,
-    /// The book has no room for the call.
+    /// The book of the calls has no room for this one.
     BookFull = 12,
 }
 
 impl Why {
-    /// Its number.
+    /// Returns its number.
     pub fn number(self) -> u8
         ensures { result ≡ number_of_why self }
     {
@@ -107,21 +107,21 @@ impl Why {
     }
 }
 
-/// A misuse of a node, or what should never be seen: a page of the wrong kind.
+/// A misuse of a node, or a page of the wrong kind, which should never happen.
 #[derive(Clone, Copy, Debug, PartialEq, Eq)]
 pub enum Bug {
     /// The page of the named roots is missing.
     MissingMeta = 1,
-    /// The page of the counter is missing. No call answers this.
+    /// The page of the counter is missing. No call returns this.
     MissingCounter = 2,
-    /// The node doesn't accept the link, as one whose key is out of its range.
+    /// The node doesn't accept the link, for example because its key is outside the node's range.
     LinkRefused = 3,
     /// A free page was read from the log.
     FreeInPull = 4,
 }
 
 impl Bug {
-    /// Its number.
+    /// Returns its number.
     pub fn number(self) -> u8
         ensures { result ≡ number_of_bug self }
     {
@@ -129,7 +129,7 @@ impl Bug {
     }
 }
 
-/// Which work of the device failed.
+/// The kind of device operation that failed.
 #[derive(Clone, Copy, Debug, PartialEq, Eq)]
 pub enum Device {
     /// A read.
@@ -138,9 +138,9 @@ pub enum Device {
     Write,
 }
 
-/// Why a call of the page cache was refused.
+/// The error of a call of the page cache.
 ///
-/// A refused call leaves what its own contract says. `Display` prints what a reply line of `sledpc` shows.
+/// The contract of each call says what an error leaves. `Display` prints what a reply line of `sledpc` shows.
 #[derive(Debug, Drop, PartialEq, Eq, Error)]
 pub enum Error {
     /// No root has this name.
@@ -155,7 +155,7 @@ pub enum Error {
     /// The device failed in this call, or a write failed in an earlier one.
     #[error("error {}", match .0 {Device::Read => "read", Device::Write => "write"})]
     Io(Device),
-    /// The log holds what no cache wrote; where it was a page that was read, at this place.
+    /// The log holds data that no cache wrote. The place, if there is one, is that of a message of the damaged page.
     #[error("error corruption")]
     Corruption(Option<DiskPtr>),
     /// An allocation failed.
@@ -163,7 +163,7 @@ pub enum Error {
     OutOfMemory,
 }
 
-/// An [`Error`] that owns no memory. The calls that lend from the cache answer it, and `?` makes an [`Error`] of it.
+/// An [`Error`] that owns no memory. The calls that return references into the cache return it, and `?` converts it to an [`Error`].
 #[derive(Clone, Copy, Debug, PartialEq, Eq, Error)]
 pub enum Refusal {
     /// The call isn't supported as it was made.
@@ -175,7 +175,7 @@ pub enum Refusal {
     /// The device failed in this call, or a write failed in an earlier one.
     #[error("error {}", match .0 {Device::Read => "read", Device::Write => "write"})]
     Io(Device),
-    /// The log holds what no cache wrote; where it was a page that was read, at this place.
+    /// The log holds data that no cache wrote. The place, if there is one, is that of a message of the damaged page.
     #[error("error corruption")]
     Corruption(Option<DiskPtr>),
     /// An allocation failed.

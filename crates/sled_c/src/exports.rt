@@ -1,5 +1,5 @@
-//! The functions that C calls. Each takes the store out of the handle, makes the call, and puts the store back. The file of the caller is out of
-//! sight here (`UnseenFile`), so what a call does over a file that keeps its word is said of the function that is called.
+//! The functions that C calls. Each moves the store out of the handle, makes the call, and moves the store back. The contracts don't see the caller's
+//! file here (`UnseenFile`): what a call does over a file that keeps its promises is stated by the function of `through` that is called.
 //!
 //! - `opening`: opening a cache in memory, closing a handle, and the texts of statuses
 //! - `file`: opening a cache over a file

@@ -1,23 +1,23 @@
--- What follows where a batch in which a file ends is marked as abandoned.
+-- What follows if a batch in which a file ends is marked as abandoned.
 use Rattle.std.proofs.Common.{◌≡◌, ◌≢◌, inl, inr, ℕ, ◌+◌, ◌^◌, ◌<◌, false, List, [], ◌∷◌, ◌++◌, length, take, get_or, refl, ap, sym, ◌∙◌, subst, append_assoc, arith}
 use Rattle.std.specs.Prelude.{Option, Some, None}
 use Rattle.std.specs.List.{AllByRecursion}
 use Rattle.std.proofs.lemmas.List.{length-append, append-nil, get_or_at}
 use Rattle.sled_log.specs.Messages.{Entry, effect_of_entry}
-use Rattle.sled_disk.specs.declared.head.Head.{Head}
+use Rattle.sled_disk.specs.declared.recovery.head.Head.{Head}
 use Rattle.sled_disk.specs.Abandoned.{abandoned_frame, place_of_begun, IsReadTo}
-use Rattle.sled_disk.specs.ReadyLaws.{read-stands}
+use Rattle.sled_disk.specs.RecoveredLogLaws.{read-stands}
 use Rattle.sled_disk.specs.Crash.{IsClosed, IsShutOrOpened, IsWhole}
-use Rattle.sled_disk.specs.Durable.{MayFollow, IsWritten}
-use Rattle.sled_disk.specs.DurableLaws.{one-meaning, behind-gate, one-more}
+use Rattle.sled_disk.specs.AppendedFrame.{MayFollow, IsWritten}
+use Rattle.sled_disk.specs.AppendedFrameLaws.{one-meaning, behind-gate, one-more}
 use Rattle.sled_disk.specs.EncodingLaws.{number_bytes-length}
 use Rattle.sled_disk.specs.Format.{◌>>=◌, opening, Record, Fits, Frame, Begun, outside, number_bytes, record_bytes, body, frames_bytes, closing_record, turn_by, turns, takes_change, takes_event, said_by, room_for, entry_at, Describes, DescribesTo, IsBytes}
 use Rattle.sled_disk.specs.MeaningLaws.{Meant, Made, made_of, made_in, gate_after-is, frames_seen, frames-meant, StandsFor, IsMeant, same-room, record_bytes-length}
-use Rattle.sled_disk.specs.Opened.{AreRead}
+use Rattle.sled_disk.specs.RecoveredHeads.{AreRead}
 use Rattle.sled_disk.specs.Reading.{Read, start, steps, head_at, effect_of_head, entry_in}
-use Rattle.sled_disk.specs.Ready.{SameMeaning}
-use Rattle.sled_disk.specs.Standing.{or_start, progress_in, events_in, Stands}
-use Rattle.sled_disk.specs.StandingLaws.{IsFile, file-read, file-more, file-parsed, says, stands}
+use Rattle.sled_disk.specs.RecoveredLog.{SameMeaning}
+use Rattle.sled_disk.specs.LogContents.{or_start, progress_in, events_in, Stands}
+use Rattle.sled_disk.specs.LogContentsLaws.{IsFile, file-read, file-more, file-parsed, says, stands}
 use Rattle.sled_disk.specs.StepLaws.{closes-from}
 use Rattle.sled_disk.specs.WholeLaws.{stepped}
 
@@ -81,7 +81,7 @@ module _ (seen : List ℕ) (gate : ℕ) (read : Read) (f : IsFile seen gate read
         ap (λ (b : Option (Begun Head)). turn_by head_at (takes_change effect_of_head) b read.settled (gate + 9) closing false >>= λ q. Some q) begun
         ∙ rw (closes-from place 14 small) refl
 
-    -- the same of what is meant
+    -- the same for what the file describes
     meant-begun : (q : Option (Begun Entry)) (b : Option (Begun Head)) → (made_of (record { settled = []; begun = q })).begun ≡ (made_in (entry_in seen) (record { settled = []; begun = b })).begun → b ≡ Some (record { place = place; inside = inside })
         → (i : List (ℕ × Entry)) × (q ≡ Some (record { place = place; inside = i }))
     meant-begun None None e h = absurd cc
@@ -137,7 +137,7 @@ module _ (seen : List ℕ) (gate : ℕ) (read : Read) (f : IsFile seen gate read
               (subst (λ (b : Option (Begun Entry)). MayFollow gate (events_in seen) b frame (events_in seen)) (sym (file-begun seen gate read f)) follows) (written byte rest after is),
         )
 
-    -- a crash of that write leaves what means the same
+    -- a crash during that write leaves bytes that mean the same
     pub abandoned-means : (left : List ℕ) → IsShutOrOpened gate (abandoned_frame place) seen left → SameMeaning seen left
     abandoned-means left torn = (events_in seen, (gate, file-described seen gate read f), by torn)
       where
@@ -160,7 +160,7 @@ module _ (seen : List ℕ) (gate : ℕ) (read : Read) (f : IsFile seen gate read
         let g = file-more seen after gate read (outside read.settled) only 1 opens-one f steps-closed some fit (omega (arith, long, end)) (written 1 rest after is) in
         one-meaning after (events_in after) (events_in seen) (gate + (9 + length (body only)), file-described after (gate + (9 + length (body only))) (outside read.settled) g) (opened-means 1 rest after opens-one is)
 
--- ---- by what the code knows
+-- ---- in terms of what the code knows
 
 some-place : (begun : Option (Begun Head)) (place : ℕ) → place_of_begun begun ≡ Some place → (inside : List (ℕ × Head)) × (begun ≡ Some (record { place = place; inside = inside }))
 some-place None place is = absurd cc
@@ -178,7 +178,7 @@ module _ (seen : List ℕ) (gate : ℕ) (read : Read) (fits : IsBytes seen) wher
   pub read-closed : (begun : Option ℕ) → IsReadTo seen gate begun read → IsClosed gate seen
   read-closed begun to = file-closed seen gate read (file-of to.are)
 
-  -- where nothing is written, what it leaves means the same
+  -- if nothing is written, what a crash leaves means the same
   pub same-means : (begun : Option ℕ) → IsReadTo seen gate begun read → (left : List ℕ) → left ≡ seen → SameMeaning seen left
   same-means begun to left is =
       let described : Describes seen (events_in seen) = (gate, file-described seen gate read (file-of to.are)) in

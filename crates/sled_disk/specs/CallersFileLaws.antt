@@ -1,10 +1,10 @@
--- Laws of what the tasks that wait make of a caller's file.
+-- Laws about what the queued tasks make of a caller's file.
 use Rattle.std.proofs.Common.{◌≡◌, ℕ, ◌+◌, ◌-◌, ◌≤◌, max, Bool, true, false, List, [], ◌∷◌, ◌++◌, length, take, drop, refl, sym, ◌∙◌, ap, subst, arith, append_assoc}
 use Rattle.std.proofs.lemmas.List.{length-drop, length-take}
 use Rattle.sled_disk.specs.CallersFile.{writes_of, bytewise, held_after}
 use Rattle.sled_disk.specs.Disk.{Torn, Follows, overlaid}
 use Rattle.sled_disk.specs.DiskLaws.{overlaid-nothing, overlaid-then, length-overlaid, torn-overlaid, torn-same, torn-then, torn-wider}
-use Rattle.sled_disk.specs.HandedIn.{after_tasks, AreWithin}
+use Rattle.sled_disk.specs.StagedReads.{after_tasks, AreWithin}
 use Rattle.sled_disk.specs.DiskMemory.{bytes_of, calls_of}
 use Rattle.sled_disk.specs.Journal.{DiskCall, Write, Again, Sync, Image, all_synced, after_call, after_calls, are_within, calls_in, MayLeave}
 use Rattle.sled_disk.specs.JournalLaws.{within-parts, write-parts}
@@ -21,7 +21,7 @@ after-append image (x ∷ xs) ys = after-append (after_call image x) xs ys
 
 -- ---- a write byte by byte
 
--- a read gives what the whole write gives
+-- a read returns what it returns after the whole write
 pub seen-writes : (image : Image) (at : ℕ) (bytes : List ℕ) → at ≤ length image.seen → (after_calls image (writes_of at bytes)).seen ≡ overlaid image.seen at bytes
 seen-writes image at [] le = sym (overlaid-nothing image.seen at)
 seen-writes image at (byte ∷ bytes) le =
@@ -29,7 +29,7 @@ seen-writes image at (byte ∷ bytes) le =
     let long = length-overlaid image.seen at (byte ∷ []) le in
     seen-writes one (at + 1) bytes (omega (arith, long)) ∙ overlaid-then image.seen at (byte ∷ []) bytes le
 
--- and a crash what it may leave of the whole
+-- and a crash leaves what it may leave after the whole write
 pub torn-writes : (image : Image) (at : ℕ) (bytes : List ℕ) → Follows (Torn at (length bytes)) (MayLeave image) (MayLeave (after_calls image (writes_of at bytes)))
 torn-writes image at [] left may = (left, may, torn-same left at 0)
 torn-writes image at (byte ∷ bytes) left may =
@@ -39,12 +39,12 @@ torn-writes image at (byte ∷ bytes) left may =
     let first : Torn at (1 + n) was.0 from.0 = torn-wider was.0 from.0 at 1 n was.2 in
     (was.0, was.1, torn-then was.0 from.0 left at (length (byte ∷ bytes)) 1 (omega arith) (subst (λ k. Torn at k was.0 from.0) (omega arith) first) (subst (λ k. Torn (at + 1) k from.0 left) (omega arith) from.2))
 
--- nothing that it might have left before is forgotten
+-- no crash state from before is forgotten
 pub keeps-writes : (image : Image) (at : ℕ) (bytes left : List ℕ) → MayLeave image left → MayLeave (after_calls image (writes_of at bytes)) left
 keeps-writes image at [] left may = may
 keeps-writes image at (byte ∷ bytes) left may = keeps-writes (after_call image (Write at (byte ∷ []))) (at + 1) bytes left (left, may, torn-same left at 1)
 
--- and what a read gives is among it, where it was
+-- and what a read returns is a crash state, if it was one
 leaves-writes : (image : Image) (at : ℕ) (bytes : List ℕ) → at ≤ length image.seen → MayLeave image image.seen → MayLeave (after_calls image (writes_of at bytes)) (after_calls image (writes_of at bytes)).seen
 leaves-writes image at [] le may = may
 leaves-writes image at (byte ∷ bytes) le may =
@@ -52,7 +52,7 @@ leaves-writes image at (byte ∷ bytes) le may =
     let long = length-overlaid image.seen at (byte ∷ []) le in
     leaves-writes one (at + 1) bytes (omega (arith, long)) (image.seen, may, torn-overlaid image.seen at (byte ∷ []) le)
 
--- ---- all that waits
+-- ---- all queued tasks
 
 pub seen-bytewise : (image : Image) (calls : List DiskCall) → AreWithin image.seen calls → (after_calls image (bytewise calls)).seen ≡ after_tasks image.seen calls
 seen-bytewise image [] within = refl
@@ -75,7 +75,7 @@ leaves-bytewise image (Write at bytes ∷ later) within may =
 leaves-bytewise image (Again at bytes ∷ later) within may = leaves-bytewise image later within.1 may
 leaves-bytewise image (Sync ∷ later) within may = leaves-bytewise (all_synced image.seen) later within refl
 
--- what a read gives once all is done that waits is what a crash may leave then
+-- what a read returns once all queued tasks are done is a crash state then
 pub leaves-tasks : (first : Image) (done calls : List DiskCall) → AreWithin (after_calls first done).seen calls → MayLeave (after_calls first done) (after_calls first done).seen
     → MayLeave (after_calls first (done ++ bytewise calls)) (after_tasks (after_calls first done).seen calls)
 leaves-tasks first done calls within may =
@@ -83,13 +83,13 @@ leaves-tasks first done calls within may =
     subst (λ (i : Image). MayLeave i (after_tasks held.seen calls)) (sym (after-append first done (bytewise calls)))
     (subst (MayLeave (after_calls held (bytewise calls))) (seen-bytewise held calls within) (leaves-bytewise held calls within may))
 
--- ---- its bytes are bytes
+-- ---- each byte is below 256
 
 bytes-sync : (file : List ℕ) (waits : Bool) → AreBytes file → AreBytes (after_tasks file (sync_if waits))
 bytes-sync file true are = are
 bytes-sync file false are = are
 
--- a file behind a write, or one of bytes that are there
+-- a file after a write, or after one of bytes that are there already
 abbrev pub behind : Bool → List ℕ → ℕ → List ℕ → List ℕ
 behind false file at bytes = overlaid file at bytes
 behind true file at bytes = file
@@ -119,7 +119,7 @@ bytes-tasks file writes bytes out last are all = bytes-writes file writes (drop 
 
 -- ---- the disk in memory
 
--- what a read gives does not ask in how many parts it was written
+-- what a read returns does not depend on the number of parts of a write
 seen-calls : (image : Image) (calls : List DiskCall) → (after_calls image calls).seen ≡ after_tasks image.seen calls
 seen-calls image [] = refl
 seen-calls image (Write at bytes ∷ later) = seen-calls (after_call image (Write at bytes)) later
@@ -153,6 +153,6 @@ pub leaves-calls : (start written : List ℕ) (end : ℕ) (calls : List StoredCa
     → MayLeave (after_calls (all_synced start) (bytewise (calls_in written calls))) (after_calls (all_synced start) (bytewise (calls_in written calls))).seen
 leaves-calls start written end calls h = leaves-bytewise (all_synced start) (calls_in written calls) (within-calls (length written) (length start) end written start calls refl h refl) refl
 
--- What it holds as a caller's file is what a read of it gives.
+-- What it holds as a caller's file is what a read of it returns.
 pub holds-bytes : (disk : MemDisk) → held_after (all_synced disk.start.items) (bytewise (calls_of disk)) ≡ bytes_of disk
 holds-bytes disk = held-calls disk.start.items disk.written.items (length disk.bytes.items) disk.calls.items disk.within ∙ sym disk.replayed

@@ -1,17 +1,17 @@
--- A place among the records of a file and those that are pending.
+-- A place among the records of a file and the pending ones.
 use Rattle.std.specs.Prelude.{◌≡◌, ◌+◌, ◌==◌, ◌&&◌, ◌||◌, ℕ, Bool, true, List, [], ◌∷◌, length, take, drop, get_or}
-use Rattle.sled_disk.specs.declared.reading.RawHead.{RawHead}
+use Rattle.sled_disk.specs.declared.format.record.RawHead.{RawHead}
 use Rattle.sled_disk.specs.Format.{Record, Frame, number, size, body}
 use Rattle.sled_disk.specs.Reading.{frames_of}
-use Rattle.sled_disk.specs.Standing.{or_none}
+use Rattle.sled_disk.specs.LogContents.{or_none}
 
--- whether a record stands there, of these, the first of which stands at `place`; or the last one ends there
+-- whether one of these records is at that place, the first of them being at `place`; or the last one ends there
 abbrev pub is_between : ℕ → List Record → ℕ → Bool
 is_between place [] at = at == place
 is_between place (r ∷ rs) at = at == place || is_between (place + size r) rs at
 
--- whether that is so of the frame whose gate stands at `gate`: one of these, the first of which stands at `first`, or the frame that
--- the pending records behind them will be
+-- whether that is so of the frame whose gate is at `gate`: one of these, the first of which is at `first`, or the frame that the pending
+-- records after them will be
 abbrev pub is_among : ℕ → List Frame → List Record → ℕ → ℕ → Bool
 is_among first [] pending gate at = gate == first && is_between (first + 9) pending at
 is_among first (frame ∷ frames) pending gate at =
@@ -21,7 +21,7 @@ is_among first (frame ∷ frames) pending gate at =
 pub record IsAmong (seen : List ℕ) (pending : List Record) (gate at : ℕ) : Type 0 where
   pub known : is_among 8 (or_none (frames_of (drop 8 seen))) pending gate at ≡ true
 
--- The head of a record, and its payload's length, are the first of these bytes.
+-- These bytes begin with the head of a record and its payload's length.
 pub record IsFront (bytes : List ℕ) (raw : RawHead) (size : ℕ) : Type 0 where
   pub kind : raw.kind ≡ get_or bytes 0 0
   pub page : raw.page ≡ number (take 8 (drop 1 bytes))

@@ -1,11 +1,12 @@
 -- What the calls of a disk do to its bytes, and the crash states that they leave.
 use Rattle.std.specs.Prelude.{◌≡◌, ◌⊎◌, ℕ, ◌+◌, ◌≤◌, max, List, ◌++◌, length, take, drop}
 
--- the bytes after these are written over them at a place
+-- the bytes after `bytes` were written over them at a place
 abbrev pub overlaid : List ℕ → ℕ → List ℕ → List ℕ
 overlaid old at bytes = take at old ++ bytes ++ drop (at + length bytes) old
 
--- what a crash may make of them in a write of n bytes at a place: any bytes in that range and past the old end, the same elsewhere
+-- What a crash may make of bytes during a write of n bytes at a place: any bytes in that range, any length between the old one and the end
+-- of the range, and the same bytes elsewhere.
 pub record Torn (at n : ℕ) (old new : List ℕ) : Type 0 where
   pub before : take at new ≡ take at old
   pub after : drop (at + n) new ≡ drop (at + n) old
@@ -28,14 +29,13 @@ LeavesNoMore old new = (left : List ℕ) → new left → old left
 abbrev pub Only : List ℕ → (List ℕ → Type 0) → Type 0
 Only bytes may_leave = (left : List ℕ) → may_leave left → left ≡ bytes
 
--- Time goes on: what a crash since t might have left, it might have left before, or it may leave it now; and nothing that it
--- might have left before is forgotten.
+-- Time passes: what a crash since t might have left, it might have left before or may leave now, and no earlier crash state is forgotten.
 pub record Elapses {D : Type 0} (moment : D → ℕ) (left_since : D → ℕ → List ℕ → Type 0) (may_leave : D → List ℕ → Type 0) (old new : D) : Type 0 where
   pub later : moment old ≤ moment new
   pub nothing_else : (t : ℕ) (left : List ℕ) → t ≤ moment old → left_since new t left → left_since old t left ⊎ may_leave new left
   pub keeps : (t : ℕ) (left : List ℕ) → t ≤ moment old → left_since old t left → left_since new t left
 
--- The disk was not written: no crash state was added, and none is forgotten.
+-- The disk was not written: no crash state was added and none is forgotten.
 pub record LeavesTheSame {D : Type 0} (tells : Type 0) (may_leave : D → List ℕ → Type 0) (moment : D → ℕ) (left_since : D → ℕ → List ℕ → Type 0) (old new : D) : Type 0 where
   pub may : tells → (left : List ℕ) → may_leave new left → may_leave old left
   pub later : tells → moment old ≤ moment new

@@ -8,7 +8,7 @@ length-overlaid old at bytes le =
     let rest : List ℕ = drop (at + length bytes) old in
     omega (arith, length-take-le at old le, length-append (take at old) bytes, length-append (take at old ++ bytes) rest, length-drop (at + length bytes) old)
 
--- a write that is done is one of those that a crash cuts short
+-- a completed write is one of the possible results of a torn one
 pub torn-overlaid : (old : List ℕ) (at : ℕ) (bytes : List ℕ) → at ≤ length old → Torn at (length bytes) old (overlaid old at bytes)
 torn-overlaid old at bytes le =
     let front : length (take at old) ≡ at = length-take-le at old le in
@@ -26,13 +26,13 @@ torn-overlaid old at bytes le =
 pub torn-same : (old : List ℕ) (at n : ℕ) → Torn at n old old
 torn-same old at n = record { before = refl; after = refl; no_shorter = omega arith; no_longer = omega arith }
 
--- no bytes change nothing
+-- writing no bytes changes nothing
 pub overlaid-nothing : (old : List ℕ) (at : ℕ) → overlaid old at [] ≡ old
 overlaid-nothing old at =
     let here : at + 0 ≡ at = omega arith in
     ap (λ (l : List ℕ). l ++ drop (at + 0) old) (append-nil (take at old)) ∙ ap (λ n. take at old ++ drop n old) here ∙ take-append-drop at old
 
--- two pieces one behind the other are one
+-- two consecutive writes of adjoining pieces are one
 pub overlaid-then : (old : List ℕ) (at : ℕ) (xs ys : List ℕ) → at ≤ length old → overlaid (overlaid old at xs) (at + length xs) ys ≡ overlaid old at (xs ++ ys)
 overlaid-then old at xs ys le =
     let front : List ℕ = take at old ++ xs in
@@ -45,7 +45,7 @@ overlaid-then old at xs ys le =
     ∙ ap (λ (l : List ℕ). front ++ ys ++ l) behind
     ∙ ap (λ (l : List ℕ). l ++ drop (at + length (xs ++ ys)) old) (append_assoc (take at old) xs ys)
 
--- a range that is torn is a part of one that is
+-- a torn range is part of a larger torn range
 pub torn-wider : (old new : List ℕ) (at n more : ℕ) → Torn at n old new → Torn at (n + more) old new
 torn-wider old new at n more torn =
     let end : at + n + more ≡ at + (n + more) = omega arith in
@@ -58,7 +58,7 @@ torn-wider old new at n more torn =
       no_longer = omega (arith, shorter);
     }
 
--- a range that is torn again behind a place in it is torn
+-- a range that is torn again from a place in it on is torn
 pub torn-then : (old mid new : List ℕ) (at n done : ℕ) → done ≤ n → Torn at n old mid → Torn (at + done) (n - done) mid new → Torn at n old new
 torn-then old mid new at n done le first second =
     let end : at + done + (n - done) ≡ at + n = omega (arith, le) in

@@ -11,18 +11,18 @@ calls_of disk = calls_in disk.written.items disk.calls.items
 abbrev pub clock_of : MemDisk → ℕ
 clock_of disk = length (calls_of disk)
 
--- what it held after the first of its calls, up to that moment
+-- its image after its first `moment` calls
 abbrev pub image_at : ℕ → MemDisk → Image
 image_at moment disk = after_calls (all_synced disk.start.items) (take moment (calls_of disk))
 
--- what it holds now
+-- its image now
 abbrev pub image_now : MemDisk → Image
 image_now disk = after_calls (all_synced disk.start.items) (calls_of disk)
 
 abbrev pub bytes_of : MemDisk → List ℕ
 bytes_of disk = disk.bytes.items
 
--- the crash states of this moment, and of each from that one on
+-- the crash states of the current moment, and those since a moment
 abbrev pub may_leave_of : MemDisk → List ℕ → Type 0
 may_leave_of disk left = MayLeave (image_now disk) left
 
@@ -40,7 +40,7 @@ room_of disk = (disk.bytes_left, disk.calls_left)
 abbrev pub faults_of : MemDisk → ℕ × ℕ
 faults_of disk = (disk.read_to_fail, disk.write_to_fail)
 
--- whether its next read is done, of its length or of so many bytes at a place, and its next write, and its next sync
+-- whether it can read its length, read n bytes at a place, sync, and write n bytes at a place
 abbrev pub can_measure : MemDisk → Bool
 can_measure disk = not (disk.read_to_fail == 1)
 

@@ -1,4 +1,4 @@
--- A record that is read is written so, and what is written so is read: alone, and in a body.
+-- Reading a record inverts encoding it, and encoding inverts reading: for one record, and for a body.
 use Rattle.std.proofs.Common.{◌≡◌, ℕ, zero, suc, ◌+◌, ◌^◌, ◌≤◌, ◌<◌, false, ltb, List, [], ◌∷◌, ◌++◌, length, take, drop, refl, ap, sym, ◌∙◌, subst, inl, inr, append_assoc, arith}
 use Rattle.std.specs.Prelude.{Option, Some, None}
 use Rattle.std.specs.List.{AllByRecursion}
@@ -49,7 +49,7 @@ drop-number n rest = drop_at (number_bytes n) rest 8 (number_bytes-length n)
 
 -- ---- a record
 
--- what bytes have to be that begin with a record
+-- what bytes must be that begin with a record
 record_at-is : (kind : ℕ) (bytes : List ℕ) (id : ℕ) (payload rest : List ℕ) → 16 ≤ length bytes → number (take 8 bytes) ≡ id → number (take 8 (drop 8 bytes)) ≡ length payload → drop 16 bytes ≡ payload ++ rest
     → record_at (kind ∷ bytes) ≡ Some (record { kind = kind; id = id; payload = payload }, rest)
 unfolding record_at

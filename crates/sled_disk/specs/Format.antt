@@ -1,4 +1,4 @@
--- The disk file: opening bytes, then frames behind open gates, then a closed gate and anything.
+-- The file of a disk: opening bytes, then frames after open gates, then a closed gate and any bytes.
 use Rattle.std.specs.Prelude.{◌≡◌, ◌≢◌, ◌+◌, ◌-◌, ◌^◌, ◌<◌, ℕ, pos, Bool, true, false, not, ◌&&◌, ◌||◌, ◌==◌, nat_lt, nat_le, List, [], ◌∷◌, ◌++◌, length, get_or, slice_index_or, Option, Some, None, if◌then◌else◌}
 use Rattle.std.specs.Int.{w64, to_le_bytes, from_le_bytes}
 use Rattle.std.specs.List.{AllByRecursion, list_any}
@@ -22,7 +22,7 @@ opening = 0x53 ∷ 0x4c ∷ 0x50 ∷ 0x43 ∷ 0x4c ∷ 0x4f ∷ 0x47 ∷ 0x31 �
 abbrev pub IsBytes : List ℕ → Type 0
 IsBytes bytes = (i : ℕ) → get_or bytes i 0 < 256
 
--- a number as 8 bytes, the lowest first, and the number that 8 bytes are
+-- a number as 8 bytes, the lowest first, and the number that 8 bytes encode
 unfoldable pub number_bytes : ℕ → List ℕ
 number_bytes n = to_le_bytes w64 n
 
@@ -47,7 +47,7 @@ abbrev pub body : List Record → List ℕ
 body [] = []
 body (r ∷ rs) = record_bytes r ++ body rs
 
--- a frame is behind its gate
+-- a frame: its gate, and the records after it
 pub record Frame : Type 0 where
   pub gate : ℕ
   pub records : List Record
@@ -60,26 +60,26 @@ abbrev pub frames_bytes : List Frame → List ℕ
 frames_bytes [] = []
 frames_bytes (frame ∷ frames) = frame_bytes frame ++ frames_bytes frames
 
--- a record's numbers fit their 8 bytes
+-- a record's numbers fit in their 8 bytes
 pub record Fits (r : Record) : Type 0 where
   pub id : r.id < 2 ^ 64
   pub payload : length r.payload < 2 ^ 64
 
--- the gate is open, and the body has a record and a length that fits its 8 bytes
+-- the gate is open, and the body has at least one record and a length that fits in its 8 bytes
 pub record IsFrame (frame : Frame) : Type 0 where
   pub gate : frame.gate ≢ 0
   pub some : frame.records ≢ []
   pub fit : AllByRecursion Fits frame.records
   pub length : length (body frame.records) < 2 ^ 64
 
--- ---- where records stand, and what they mean
+-- ---- where records are, and what they mean
 
--- the places of records that stand one behind the other
+-- the places of consecutive records
 abbrev pub places_from : ℕ → List Record → List ℕ
 places_from place [] = []
 places_from place (r ∷ rs) = place ∷ places_from (place + size r) rs
 
--- whether a record stands there, of these of a frame
+-- whether one of these records of a frame is at that place
 abbrev pub stands_in : ℕ → ℕ → List Record → Bool
 stands_in target place rs = list_any (λ p. target == p) (places_from place rs)
 
@@ -87,36 +87,36 @@ stands_in target place rs = list_any (λ p. target == p) (places_from place rs)
 abbrev pub mark_id : ℕ
 mark_id = 2 ^ 64 - 667
 
--- Whether a record is an old mark of a batch, which lies in one frame: it names a record of the frame that isn't before itself. Nothing
--- more is said by it.
+-- Whether a record is a batch's mark of the old kind, which is within one frame: it names a record of the frame that is not before the
+-- mark. It has no other meaning.
 abbrev pub is_mark : Record → Bool
 is_mark r = r.kind == 3 && (r.id == mark_id && length r.payload == 8)
 
 abbrev pub marks : ℕ → Record → List Record → Bool
 marks place r rest = is_mark r && stands_in (number r.payload) place (r ∷ rest)
 
--- whether a record begins a batch, and the one that a log writes
+-- whether a record begins a batch, and the record with which a log begins one
 abbrev pub is_begin : Record → Bool
 is_begin r = r.id == mark_id && length r.payload == 0
 
 abbrev pub begin_record : Record
 begin_record = record { kind = 12; id = mark_id; payload = [] }
 
--- whether a record of a begun batch closes it, by its kind: it ends (13), it is cancelled (1), or it was abandoned (14)
+-- whether a record of this kind closes a batch: it ends (13), it is cancelled (1), or it was abandoned (14)
 abbrev pub is_closing : ℕ → Bool
 is_closing kind = kind == 13 || (kind == 1 || kind == 14)
 
--- whether a record closes the batch that a record at that place began, and the one that a log writes
+-- whether a record closes the batch that began at that place, and the record with which a log closes one
 abbrev pub closes_from : ℕ → Record → Bool
 closes_from begin r = r.id == mark_id && (length r.payload == 8 && number r.payload == begin)
 
 abbrev pub closing_record : ℕ → ℕ → Record
 closing_record kind begin = record { kind = kind; id = mark_id; payload = number_bytes begin }
 
--- for each thing `E` that may be kept of a record that stands at a place
+-- for each type `E` of what may be kept of a record at a place
 module _ {E : Type 0} (effect : E → LogKind) where
-  -- whether a change of a page may come behind what made these chains: it leaves no gap, it frees a page that is there, and
-  -- it links one that has a content
+  -- whether a change of a page may follow what made these chains: it leaves no gap in the ids, it frees only a page that exists, and it
+  -- links only one that has a content
   abbrev pub may_change : LogKind → List (List E) → ℕ → Bool
   may_change effects.Replace chains id = nat_le id (length chains)
   may_change effects.Free chains id = nat_lt id (length chains)
@@ -139,12 +139,12 @@ abbrev pub ◌>>=◌ : {A B : Type 0} → Option A → (A → Option B) → Opti
 None >>= f = None
 (Some x) >>= f = f x
 
--- a batch that is begun: the place of its first record, and its changes so far, each by its page
+-- a batch that has begun: the place of its first record, and its changes so far, each with its page
 pub record Begun (E : Type 0) : Type 0 where
   pub place : ℕ
   pub inside : List (ℕ × E)
 
--- how far a file was read: what counts, and the batch that is begun, if one is
+-- how far a file was read: what counts, and the batch that has begun, if one has
 pub record Progress (E S : Type 0) : Type 0 where
   pub settled : S
   pub begun : Option (Begun E)
@@ -156,8 +156,8 @@ outside s = record { settled = s; begun = None }
 abbrev pub within : {E S : Type 0} → S → ℕ → List (ℕ × E) → Progress E S
 within s place inside = record { settled = s; begun = Some (record { place = place; inside = inside }) }
 
--- What is said of a record at a place, and what counts with a change more, if it may come then. Changes in a batch count once the
--- record comes that ends or cancels it, and not before; if it is abandoned, they never do.
+-- What is kept of a record at a place, and what counts with one more change, if it is allowed then. Changes in a batch count once a record
+-- ends or cancels it, and not before; if it is abandoned, they never count.
 module _ {E S : Type 0} (said : ℕ → Record → E) (takes : S → ℕ → E → Option S) where
   abbrev pub taken : S → List (ℕ × E) → Option S
   taken s [] = Some s
@@ -196,7 +196,7 @@ module _ {E S : Type 0} (said : ℕ → Record → E) (takes : S → ℕ → E �
   turn_inside s b place r =
       if is_closing r.kind then (if closes_from b.place r then closed r.kind s b else None) else waits (log_kind_of (kind_of r.kind)) s b r.id (said place r)
 
-  -- one record more, if it may stand there
+  -- one more record, if it is allowed there
   abbrev pub turn_by : Option (Begun E) → S → ℕ → Record → Bool → Option (Progress E S)
   turn_by None s place r mark = turn_outside s place r mark
   turn_by (Some b) s place r mark = turn_inside s b place r
@@ -209,12 +209,12 @@ module _ {E S : Type 0} (said : ℕ → Record → E) (takes : S → ℕ → E �
   turns place p [] = Some p
   turns place p (r ∷ rs) = turn p place r (marks place r rs) >>= λ q. turns (place + size r) q rs
 
-  -- frames, the first gate of which stands at a place
+  -- frames, the first gate of which is at a place
   unfoldable pub frames_turns : ℕ → Progress E S → List Frame → Option (Progress E S)
   frames_turns gate p [] = Some p
   frames_turns gate p (frame ∷ frames) = turns (gate + 9) p frame.records >>= λ q. frames_turns (gate + (9 + length (body frame.records))) q frames
 
--- one change more, if it may come: in events, and in the chains that they make
+-- one more change, if it is allowed: in events, and in the chains that they make
 module _ {E : Type 0} (effect : E → LogKind) where
   abbrev pub takes_event : List (Event E) → ℕ → E → Option (List (Event E))
   takes_event events id e = if may_change effect (effect e) (chains_after effect [] events) id then Some (events ++ Change id e ∷ []) else None
@@ -229,20 +229,20 @@ entry_at place r = record {
   place = record { lsn = pos place; pointer = Inline place; log_size = size r };
 }
 
--- Behind the last gate of a file that ends inside a batch there is room for the frame that says that it was abandoned.
+-- After the last gate of a file that ends inside a batch there is room for the frame that marks it as abandoned.
 abbrev pub room_for : {E : Type 0} → Option (Begun E) → ℕ
 room_for None = 0
 room_for (Some begun) = 34
 
--- what the frames of a file say in order
+-- what the frames of a file mean, in order
 abbrev pub said_by : List Frame → Option (Progress Entry (List (Event Entry)))
 said_by frames = frames_turns entry_at (takes_event effect_of_entry) 8 (outside []) frames
 
--- The bytes describe these events, and their closed gate stands at this place.
+-- The bytes describe these events, and their closed gate is at this place.
 pub record DescribesTo (gate : ℕ) (bytes : List ℕ) (events : List (Event Entry)) : Type 0 where
   pub frames : List Frame
   pub each : AllByRecursion IsFrame frames
-  -- what is behind the closed gate: anything
+  -- the bytes after the closed gate: any
   pub rest : List ℕ
   pub is : bytes ≡ (opening ++ frames_bytes frames) ++ 0 ∷ rest
   pub place : gate ≡ length (opening ++ frames_bytes frames)
@@ -251,6 +251,7 @@ pub record DescribesTo (gate : ℕ) (bytes : List ℕ) (events : List (Event Ent
   pub small : gate + room_for begun < 2 ^ 63
   pub meaning : said_by frames ≡ Some (record { settled = events; begun = begun })
 
--- THE MEANING OF A FILE. The bytes describe these events in order, changes of pages alone. Bytes that describe nothing are Corruption.
+-- THE MEANING OF A FILE. The bytes describe these events, in order, which are only changes of pages. Bytes that describe nothing are
+-- Corruption.
 abbrev pub Describes : List ℕ → List (Event Entry) → Type 0
 Describes bytes events = (gate : ℕ) × DescribesTo gate bytes events

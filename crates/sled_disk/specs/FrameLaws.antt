@@ -1,4 +1,4 @@
--- Reading frames one after the other.
+-- Reading frames one after another.
 use Rattle.std.proofs.Common.{◌≡◌, ◌≢◌, ℕ, zero, suc, ◌+◌, ◌^◌, ◌≤◌, ◌<◌, false, cond, ltb, eqb, List, [], ◌∷◌, ◌++◌, length, take, drop, refl, ap, sym, ◌∙◌, subst, inl, inr, append_assoc, arith}
 use Rattle.std.specs.Prelude.{get_or, Option, Some, None, IfSome, ◌==◌, nat_lt, if◌then◌else◌}
 use Rattle.std.specs.List.{AllByRecursion}
@@ -8,7 +8,7 @@ use Rattle.sled_disk.specs.Format.{◌>>=◌, Record, Frame, number, number_byte
 use Rattle.sled_disk.specs.Reading.{Read, records_of, body_at, frames_in, frames_of, steps, steps_of, frames_steps, found_at}
 use Rattle.sled_disk.specs.EncodingLaws.{IsBytes-drop, IsBytes-take, number-front, number-below, number-at_front, drop-number, number_bytes-length, records-take, records-again}
 
--- ---- a body behind a gate
+-- ---- a body after a gate
 
 pub record TakesBody (bytes inside behind : List ℕ) : Type 0 where
   pub parts : bytes ≡ number_bytes (length inside) ++ (inside ++ behind)
@@ -62,7 +62,7 @@ body_at-again inside behind some small =
 
 -- ---- frames
 
--- a body behind a gate and what is behind it
+-- a body after a gate, and what follows it
 abbrev pub WholeBody : List ℕ → Option (List ℕ × List ℕ) → Type 0
 WholeBody bytes x = IfSome x (λ x. 8 + length x.0 + length x.1 ≡ length bytes)
 
@@ -98,7 +98,7 @@ same (suc m) (suc n) (gate ∷ bytes) a b = ap (λ (f : Option (List Frame)). if
     by None w next = refl
     by (Some x) w next = ap (framed gate (records_of x.0)) (next x.1 (omega (arith, w)) (omega (arith, w)))
 
--- a frame behind an open gate, and the frames behind it
+-- a frame after an open gate, and the frames after it
 pub frames_of-more : (gate : ℕ) (bytes inside behind : List ℕ) → gate ≢ 0 → Some (inside, behind) ≡ body_at bytes → frames_of (gate ∷ bytes) ≡ framed gate (records_of inside) (frames_of behind)
 unfolding frames_of frames_in
 frames_of-more gate bytes inside behind opened is =
@@ -148,7 +148,7 @@ found_at-taken at so_far gate bytes inside behind after opened is fits taken = r
     by (Some rs) whole h None = refl
     by (Some rs) whole h (Some fs) = rw h (ap (λ (l : List ℕ). frames_steps (at + (9 + length l)) after fs) (sym (whole rs refl)))
 
--- ---- what is read is written so, and what is written so is read
+-- ---- reading inverts encoding, and encoding inverts reading
 
 pub frames-again : (frames : List Frame) (rest : List ℕ) → AllByRecursion IsFrame frames → frames_of (frames_bytes frames ++ 0 ∷ rest) ≡ Some frames
 frames-again [] rest each = frames_of-closed 0 rest refl
@@ -166,7 +166,7 @@ frames-again (frame ∷ frames) rest each =
     no_records [] e = refl
     no_records (r ∷ rs) e = absurd cc
 
--- bytes that are these frames, then a closed gate and anything
+-- bytes that are these frames, then a closed gate and any bytes
 pub record AreFrames (bytes : List ℕ) (frames : List Frame) : Type 0 where
   pub each : AllByRecursion IsFrame frames
   pub rest : List ℕ
@@ -215,7 +215,7 @@ pub frames-take : (bytes : List ℕ) (frames : List Frame) → IsBytes bytes →
 unfolding frames_of
 frames-take bytes frames fits e = frames_in-take (length bytes) bytes frames fits e
 
--- ---- the same of what is left
+-- ---- the same for the rest of a file
 
 module _ (at : ℕ) (so_far : Read) where
   pub left-end : (rest : List ℕ) → length rest < 1 → found_at at so_far rest ≡ None

@@ -1,10 +1,10 @@
--- What a log says of its heads are facts, as a ghost field needs it.
+-- What a log states about its heads are propositions, as a ghost field requires.
 use Rattle.std.specs.Prelude.{◌≡◌, ℕ, Bool, true, List}
 use Rattle.std.specs.List.{AllByRecursion, AllByRecursion-prop}
 use Rattle.std.proofs.Props.{props}
 use Rattle.sled_log.specs.Chains.{is_chain}
-use Rattle.sled_disk.specs.declared.head.Head.{Head}
-use Rattle.sled_disk.specs.Opened.{AllEndBy, AreHeads, IsPlaced}
+use Rattle.sled_disk.specs.declared.recovery.head.Head.{Head}
+use Rattle.sled_disk.specs.RecoveredHeads.{AllEndBy, AreHeads, IsPlaced}
 use Rattle.sled_disk.specs.Reading.{effect_of_head}
 
 heads-prop : (heads : List Head) → IsProp (AreHeads heads)

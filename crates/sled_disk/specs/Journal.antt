@@ -4,13 +4,13 @@ use Rattle.sled_disk.specs.Disk.{overlaid, Torn}
 use Rattle.sled_disk.specs.declared.disk.journal.Call.{Call as StoredCall}
 use Rattle.sled_disk.specs.declared.disk.journal.Call.TheVariants as stored
 
--- a write, one of bytes that are there, or a sync
+-- a write, a write of bytes that are there already, or a sync
 pub data DiskCall : Type 0 where
   Write : (at : ℕ) (bytes : List ℕ) → DiskCall
   Again : (at : ℕ) (bytes : List ℕ) → DiskCall
   Sync : DiskCall
 
--- The bytes of all writes stand one behind the other, and a call says where its own begin and end.
+-- The bytes of all writes are stored end to end, and a call says where its own begin and end.
 abbrev pub call_in : List ℕ → StoredCall → DiskCall
 call_in written (stored.Write at from to) = Write at (take (to - from) (drop from written))
 call_in written stored.Sync = Sync
@@ -18,8 +18,8 @@ call_in written stored.Sync = Sync
 abbrev pub calls_in : List ℕ → List StoredCall → List DiskCall
 calls_in written calls = map (call_in written) calls
 
--- Whether a call begins within the bytes that were there, which were so many, and its own bytes are among those that were
--- written; and how many bytes there are after it.
+-- Whether a call begins within the `len` bytes that were there, and its own bytes are among those that were written; and how many bytes
+-- there are after it.
 abbrev pub is_within : ℕ → ℕ → StoredCall → Bool
 is_within written len (stored.Write at from to) = nat_le at len && (nat_le from to && nat_le to written)
 is_within written len stored.Sync = true
@@ -28,12 +28,12 @@ abbrev pub length_after : ℕ → StoredCall → ℕ
 length_after len (stored.Write at from to) = max len (at + (to - from))
 length_after len stored.Sync = len
 
--- whether all calls do, where there are so many bytes at first and in the end
+-- whether all calls do, if there are `len` bytes at first and `end` bytes at the end
 abbrev pub are_within : ℕ → ℕ → ℕ → List StoredCall → Bool
 are_within written len end [] = len == end
 are_within written len end (call ∷ calls) = is_within written len call && are_within written (length_after len call) end calls
 
--- what a read gives, what the last sync made durable, and the ranges (place, length) that were written since, the newest first
+-- what reads return, what the last sync made durable, and the ranges (place, length) that were written since, the newest first
 pub record Image : Type 0 where
   pub seen : List ℕ
   pub synced : List ℕ
@@ -47,12 +47,12 @@ after_call image (Write at bytes) = record { seen = overlaid image.seen at bytes
 after_call image (Again at bytes) = image
 after_call image Sync = all_synced image.seen
 
--- the image after these calls, the first of them first
+-- the image after these calls, in order
 abbrev pub after_calls : Image → List DiskCall → Image
 after_calls image [] = image
 after_calls image (call ∷ calls) = after_calls (after_call image call) calls
 
--- from what was durable, each range torn that was written since
+-- what was durable, with each range torn that was written since
 abbrev pub IsTornFrom : List ℕ → List (ℕ × ℕ) → List ℕ → Type 0
 IsTornFrom synced [] left = left ≡ synced
 IsTornFrom synced (range ∷ earlier) left = (was : List ℕ) × IsTornFrom synced earlier was × Torn range.0 range.1 was left
@@ -61,7 +61,7 @@ IsTornFrom synced (range ∷ earlier) left = (was : List ℕ) × IsTornFrom sync
 abbrev pub MayLeave : Image → List ℕ → Type 0
 MayLeave image left = IsTornFrom image.synced image.unsynced left
 
--- what a crash at some moment from `since` on might have left of a disk that was so before these calls
+-- what a crash at some moment from `since` on might have left of a disk that had the image `first` before these calls
 pub record WasLeft (first : Image) (calls : List DiskCall) (since : ℕ) (left : List ℕ) : Type 0 where
   pub at : ℕ
   pub from : since ≤ at
@@ -70,17 +70,17 @@ pub record WasLeft (first : Image) (calls : List DiskCall) (since : ℕ) (left :
 
 -- ---- one crash state of each image
 
--- that byte in each of these ranges
+-- these bytes with `byte` throughout each of these ranges
 abbrev pub filled : ℕ → List ℕ → List (ℕ × ℕ) → List ℕ
 filled byte synced [] = synced
 filled byte synced (range ∷ earlier) = overlaid (filled byte synced earlier) range.0 (replicate range.1 byte)
 
--- the ranges that aren't synced as they were written or, where one is given, of that byte
+-- the ranges that are not synced hold what was written or, if a byte is given, that byte throughout
 abbrev pub left_of : Option ℕ → Image → List ℕ
 left_of None image = image.seen
 left_of (Some byte) image = filled byte image.synced image.unsynced
 
--- What a replay has made of an image: what a read gives, and a crash state that is as long.
+-- What a replay has made of an image: what reads return, and a crash state of the same length.
 pub record IsReplayed (fill : Option ℕ) (image : Image) (seen left : List ℕ) : Type 0 where
   pub reads : seen ≡ image.seen
   pub leaves : left ≡ left_of fill image

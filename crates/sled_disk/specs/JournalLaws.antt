@@ -1,4 +1,4 @@
--- Laws of the journal that the disk in memory shows of itself.
+-- Laws of the journal of a disk in memory.
 use Rattle.std.specs.Prelude.{◌≡◌, ℕ, ◌+◌, ◌-◌, ◌≤◌, max, true, nat_le, List, [], ◌∷◌, length, take, drop}
 use Rattle.std.proofs.Common.{subst, sym, refl, arith}
 use Rattle.std.proofs.lemmas.Bool.{and_parts, leb-true}
@@ -8,7 +8,7 @@ use Rattle.sled_disk.specs.declared.disk.journal.Call.TheVariants as stored
 use Rattle.sled_disk.specs.Journal.{DiskCall, Write, Image, calls_in, is_within, length_after, are_within, all_synced, after_call, after_calls, MayLeave, WasLeft}
 use Rattle.sled_disk.specs.DiskLaws.{length-overlaid, torn-overlaid}
 
--- the crash states of this moment are among those since it
+-- the crash states of the current moment are among those since it
 pub left_by_now : (first : Image) (calls : List DiskCall) (left : List ℕ) → MayLeave (after_calls first calls) left → WasLeft first calls (length calls) left
 left_by_now first calls left may = record {
   at = length calls;
@@ -17,7 +17,7 @@ left_by_now first calls left may = record {
   may = subst (λ (l : List DiskCall). MayLeave (after_calls first l) left) (sym (take_all (length calls) calls (omega arith))) may;
 }
 
--- and they are all of them
+-- and there are no others
 pub only_by_now : (first : Image) (calls : List DiskCall) (left : List ℕ) → WasLeft first calls (length calls) left → MayLeave (after_calls first calls) left
 only_by_now first calls left was =
     let from = was.from in
@@ -38,7 +38,7 @@ write-parts written len at from to h =
     let b = and_parts (nat_le from to) _ a.1 in
     (leb-true at len a.0, leb-true from to b.0, leb-true to written b.1)
 
--- ---- what a read gives
+-- ---- what a read returns
 
 -- what was written is one of the ways in which it may be torn
 seen-after : (written : List ℕ) (len end : ℕ) (calls : List StoredCall) (image : Image) → are_within (length written) len end calls ≡ true → length image.seen ≡ len → MayLeave image image.seen

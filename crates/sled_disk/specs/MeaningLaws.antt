@@ -1,4 +1,4 @@
--- What is said in one way of a file's records is said in another.
+-- The readings of a file's records agree, whatever is kept of each record.
 use Rattle.std.proofs.Common.{◌≡◌, ℕ, ◌+◌, ◌^◌, Bool, true, false, not, List, [], ◌∷◌, ◌++◌, length, map, take, drop, slice_index_or, refl, ap, sym, ◌∙◌, append_assoc, arith}
 use Rattle.std.specs.Prelude.{Option, Some, None, ◌==◌, nat_lt, nat_le, if◌then◌else◌}
 use Rattle.std.proofs.lemmas.List.{map-append, length-map, length-append, take_at, drop_at}
@@ -13,17 +13,17 @@ use Rattle.sled_log.specs.Events.{Event, Change}
 use Rattle.sled_log.specs.Inside.Laws.{chains_after-append}
 use Rattle.sled_log.specs.Inside.SeenLaws.{is_empty-seen, chains_after-seen}
 use Rattle.sled_log.specs.Messages.{Entry, effect_of_entry}
-use Rattle.sled_disk.specs.declared.head.Head.{Head}
+use Rattle.sled_disk.specs.declared.recovery.head.Head.{Head}
 use Rattle.sled_disk.specs.Format.{◌>>=◌, Record, Frame, Begun, Progress, outside, within, size, number_bytes, record_bytes, body, frame_bytes, frames_bytes, marks, is_begin, is_closing, closes_from, may_change, taken, counts, waits, plain, closed, turn_by, turn, turns, frames_turns, takes_event, takes_change, room_for, entry_at}
 use Rattle.sled_disk.specs.EncodingLaws.{number_bytes-length}
 use Rattle.sled_disk.specs.Reading.{Read, frames_steps, steps, head_at, effect_of_head, entry_in}
 
--- the place behind frames that begin at one
+-- the place after frames that begin at a place
 abbrev pub gate_after : ℕ → List Frame → ℕ
 gate_after gate [] = gate
 gate_after gate (frame ∷ frames) = gate_after (gate + (9 + length (body frame.records))) frames
 
--- ---- each thing that is said, seen otherwise
+-- ---- what is kept of records, seen through a function
 
 abbrev pub seen_option : {A B : Type 0} → (A → B) → Option A → Option B
 seen_option f None = None
@@ -44,7 +44,7 @@ module _ {E F S T : Type 0} (said : ℕ → Record → E) (said_seen : ℕ → R
   abbrev pub seen_progress : Progress E S → Progress F T
   seen_progress p = record { settled = see_settled p.settled; begun = seen_begun p.begun }
 
-  -- what is said of each of these records is seen so
+  -- `see` maps what is kept of each of these records in one reading to what is kept in the other
   abbrev pub AllSeen : ℕ → List Record → Type 0
   AllSeen place [] = Unit {0}
   AllSeen place (r ∷ rs) = (see (said place r) ≡ said_seen place r) × AllSeen (place + size r) rs
@@ -65,7 +65,7 @@ module _ {E F S T : Type 0} (said : ℕ → Record → E) (said_seen : ℕ → R
         by None next = refl
         by (Some t) next = next t
 
-    -- what counts, seen so
+    -- what counts, seen through it
     settles : (x : Option S) → (seen_option see_settled x >>= λ t. Some (outside t)) ≡ seen_option seen_progress (x >>= λ t. Some (outside t))
     settles None = refl
     settles (Some t) = refl
@@ -175,7 +175,7 @@ takes_event-makes events id e =
     seen-if (chains_after effect_of_entry []) (may_change effect_of_entry (effect_of_entry e) (chains_after effect_of_entry [] events) id) (Some (events ++ Change id e ∷ [])) None (Some (chains_after effect_of_entry (chains_after effect_of_entry [] events) (Change id e ∷ []))) None
     (ap (λ (l : List (List Entry)). Some l) (sym (chains_after-append effect_of_entry [] events (Change id e ∷ [])))) refl
 
--- ---- what the code keeps, and what is meant
+-- ---- what the code keeps, and the meaning
 
 -- each head of these records, from a place on, is seen as the record's entry
 abbrev pub AreSeen : (Head → Entry) → ℕ → List Record → Type 0
@@ -184,7 +184,7 @@ AreSeen see place rs = AllSeen head_at entry_at (takes_change effect_of_head) (t
 abbrev pub FramesSeen : (Head → Entry) → ℕ → List Frame → Type 0
 FramesSeen see gate frames = AllFramesSeen head_at entry_at (takes_change effect_of_head) (takes_change effect_of_entry) see (map (map see)) gate frames
 
--- how far is meant, in chains
+-- the progress of the meaning, in chains
 abbrev pub Meant : Type 0
 Meant = Progress Entry (List (Event Entry))
 
@@ -217,14 +217,14 @@ all-frames-seen : (gate : ℕ) (frames : List Frame) → AllFramesSeen entry_at 
 all-frames-seen gate [] = tt
 all-frames-seen gate (frame ∷ frames) = (all-seen (gate + 9) frame.records, all-frames-seen (gate + (9 + length (body frame.records))) frames)
 
--- what is meant makes chains
+-- the chains that the meaning makes
 pub turns-make : (place : ℕ) (p : Meant) (rs : List Record) → made_turns place (made_of p) rs ≡ seen_option made_of (meant_turns place p rs)
 turns-make place p rs = turns-seen entry_at entry_at (takes_event effect_of_entry) (takes_change effect_of_entry) (λ e. e) (chains_after effect_of_entry []) takes_event-makes place p rs (all-seen place rs)
 
 pub frames-make : (gate : ℕ) (p : Meant) (frames : List Frame) → made_frames gate (made_of p) frames ≡ seen_option made_of (meant_frames gate p frames)
 frames-make gate p frames = frames_turns-seen entry_at entry_at (takes_event effect_of_entry) (takes_change effect_of_entry) (λ e. e) (chains_after effect_of_entry []) takes_event-makes gate p frames (all-frames-seen gate frames)
 
--- the heads stand for them
+-- the heads represent them
 module _ (see : Head → Entry) (same : SameEffect effect_of_head effect_of_entry see) where
   pub steps-make : (place : ℕ) (p : Read) (rs : List Record) → AreSeen see place rs → made_turns place (made_in see p) rs ≡ seen_option (made_in see) (steps place p rs)
   steps-make place p rs h = turns-seen head_at entry_at (takes_change effect_of_head) (takes_change effect_of_entry) see (map (map see)) (takes_change-seen effect_of_head effect_of_entry see same) place p rs h
@@ -232,7 +232,7 @@ module _ (see : Head → Entry) (same : SameEffect effect_of_head effect_of_entr
   pub read-make : (gate : ℕ) (p : Read) (frames : List Frame) → FramesSeen see gate frames → made_frames gate (made_in see p) frames ≡ seen_option (made_in see) (frames_turns head_at (takes_change effect_of_head) gate p frames)
   read-make gate p frames h = frames_turns-seen head_at entry_at (takes_change effect_of_head) (takes_change effect_of_entry) see (map (map see)) (takes_change-seen effect_of_head effect_of_entry see same) gate p frames h
 
--- the frames, and then the gate behind them
+-- the frames, and then the gate after them
 pub frames_steps-are : (gate : ℕ) (p : Read) (frames : List Frame) → frames_steps gate p frames ≡ (frames_turns head_at (takes_change effect_of_head) gate p frames >>= λ q. if nat_lt (gate_after gate frames + room_for q.begun) (2 ^ 63) then Some (gate_after gate frames, q) else None)
 unfolding frames_steps frames_turns
 frames_steps-are gate p [] = refl
@@ -251,7 +251,7 @@ frames_steps-are gate p (frame ∷ frames) = by (steps (gate + 9) p frame.record
 
 -- ---- heads in their bytes
 
--- the payload of a record that stands behind so many bytes
+-- the payload of a record after `place` bytes
 payload-at : (front : List ℕ) (place : ℕ) (r : Record) (behind : List ℕ) → length front ≡ place → take (length r.payload) (drop (place + 17) (front ++ (record_bytes r ++ behind))) ≡ r.payload
 payload-at front place r behind len =
     let head = number_bytes r.id ++ number_bytes (length r.payload) in
@@ -298,17 +298,17 @@ gate_after-is gate (frame ∷ frames) =
     let head = number_bytes (length inside) in
     omega (arith, gate_after-is (gate + (9 + length inside)) frames, length-append (frame_bytes frame) (frames_bytes frames), length-append head inside, number_bytes-length (length inside))
 
--- ---- from what the code keeps to what is meant
+-- ---- from what the code keeps to the meaning
 
 pub some-seen : {A B : Type 0} (f : A → B) (x : Option A) (y : B) → seen_option f x ≡ Some y → (a : A) × (x ≡ Some a) × (f a ≡ y)
 some-seen f None y is = absurd cc
 some-seen f (Some a) y is = (a, refl, cc)
 
--- what was meant stands for what was read
+-- the meaning makes the same chains as what was read
 abbrev pub StandsFor : (Head → Entry) → Meant → Read → Type 0
 StandsFor see q p = made_of q ≡ made_in see p
 
--- what is meant with more, and stands for what was read
+-- there is a meaning, and it makes the same chains as what was read
 abbrev pub IsMeant : (Head → Entry) → Option Meant → Read → Type 0
 IsMeant see found p = (q : Meant) × (found ≡ Some q) × StandsFor see q p
 
@@ -338,10 +338,10 @@ room-read : (see : Head → Entry) (p : Option (Begun Head)) → room_for (made_
 room-read see None = refl
 room-read see (Some b) = refl
 
--- both need as much room
+-- both need the same room
 pub same-room : (see : Head → Entry) (q : Meant) (p : Read) → StandsFor see q p → room_for q.begun ≡ room_for p.begun
 same-room see q p stands = sym (room-meant q.begun) ∙ ap (λ (m : Made). room_for m.begun) stands ∙ room-read see p.begun
 
--- the same of the chains that count
+-- the same for the chains that count
 pub same-chains : (see : Head → Entry) (q : Meant) (p : Read) → StandsFor see q p → map (map see) p.settled ≡ chains_after effect_of_entry [] q.settled
 same-chains see q p stands = ap (λ (m : Made). m.settled) (sym stands)

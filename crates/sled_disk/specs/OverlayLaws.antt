@@ -1,4 +1,4 @@
--- Bytes that are written over others are bytes.
+-- Bytes after a write of bytes are below 256.
 use Rattle.std.proofs.Common.{ℕ, zero, suc, ◌+◌, ◌<◌, List, [], ◌∷◌, ◌++◌, length, take, drop, get_or, arith}
 use Rattle.sled_disk.specs.Disk.{overlaid}
 

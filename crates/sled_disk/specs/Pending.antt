@@ -1,4 +1,4 @@
--- What is pending: records in a buffer, and the changes in the file of a batch in which it ends.
+-- What is pending: the records in a buffer, and the changes of a batch in which the file ends.
 use Rattle.std.specs.Prelude.{◌+◌, ◌-◌, ◌==◌, nat_le, nat_lt, ℕ, Bool, true, false, List, [], ◌∷◌, ◌++◌, length, map, drop, if◌then◌else◌}
 use Rattle.sled_base.specs.Kinds.{kind_of, log_kind_of}
 use Rattle.sled_base.specs.declared.kinds.LogKind.{LogKind}
@@ -8,9 +8,9 @@ use Rattle.sled_log.specs.Events.{Event, Change, Pin, Seal, Cancel}
 use Rattle.sled_log.specs.LogState.{LogState}
 use Rattle.sled_log.specs.Messages.{Entry, effect_of_entry}
 use Rattle.sled_disk.specs.Format.{Record, size, number_bytes, entry_at}
-use Rattle.sled_disk.specs.Standing.{events_in, inside_in, records_behind}
+use Rattle.sled_disk.specs.LogContents.{events_in, inside_in, records_behind}
 
--- whether a batch is open after a record of this kind, and after these records, where the first argument says whether one is before
+-- whether a batch is open after a record of this kind, and after these records, if the first argument says whether one is open before
 abbrev pub open_behind : Bool → ℕ → Bool
 open_behind was kind = if kind == 12 then true else if kind == 13 then false else if kind == 1 then false else was
 
@@ -18,11 +18,11 @@ abbrev pub open_by : Bool → List Record → Bool
 open_by was [] = was
 open_by was (r ∷ rs) = open_by (open_behind was r.kind) rs
 
--- a log writes no record that says that a batch was abandoned, but where it is opened
+-- a log writes a record that marks a batch as abandoned only when it is opened
 abbrev pub is_own : Record → Bool
 is_own r = nat_lt r.kind 14
 
--- room for the record that closes a batch, and for a frame of it alone
+-- the room for the record that closes a batch, and for a frame with only that record
 abbrev pub closing_room : Bool → ℕ
 closing_room true = 25
 closing_room false = 0
@@ -31,7 +31,7 @@ abbrev pub room_after : Bool → ℕ
 room_after true = 34
 room_after false = 0
 
--- the events that are pending, the first record of which will stand at a place
+-- the events that are pending, if the first record will be at a place
 abbrev pub event_by : LogKind → ℕ → Record → List (Event Entry)
 event_by effects.Replace place r = Change r.id (entry_at place r) ∷ []
 event_by effects.Free place r = Change r.id (entry_at place r) ∷ []
@@ -57,11 +57,11 @@ batch_events false inside = []
 
 -- ---- the state of the log
 
--- what is pending, where the present gate stands there, and the file ends inside a batch or not
+-- what is pending, if the current gate is at a place, and `spilled` says whether the file ends inside a batch
 abbrev pub pending_in : List ℕ → ℕ → Bool → List ℕ → List (Event Entry)
 pending_in seen gate spilled buffer = batch_events spilled (inside_in seen) ++ pending_events (gate + 9) (records_behind buffer)
 
--- What counts of the open frames is durable. A batch in which they end is pending, and so is what stands in the buffer.
+-- What counts in the open frames is durable. A batch in which they end is pending, and so is what is in the buffer.
 abbrev pub state_in : List ℕ → ℕ → Bool → List ℕ → Bool → LogState Entry
 state_in seen gate spilled buffer usable = record {
   stable = chains_after effect_of_entry [] (events_in seen);
@@ -69,10 +69,10 @@ state_in seen gate spilled buffer usable = record {
   usable = usable;
 }
 
--- what a frame writes behind the present gate: the length of its records, the records, and the next gate, which is closed
+-- what a frame writes after the current gate: the length of its records, the records, and the next gate, which is closed
 abbrev pub frame_in : List ℕ → List ℕ
 frame_in buffer = number_bytes (length (drop 8 buffer)) ++ drop 8 buffer ++ 0 ∷ []
 
--- how many bytes the next frame would write, its length and its gate included
+-- how many bytes the next frame would write, including its length and its gate
 abbrev pub frame_size : List ℕ → ℕ
 frame_size buffer = if nat_le (length buffer) 8 then 0 else length buffer - 8 + 10

@@ -1,4 +1,4 @@
--- What follows of pending records.
+-- What follows for pending records.
 use Rattle.std.proofs.Common.{◌≡◌, ℕ, ◌+◌, Bool, true, false, List, [], ◌∷◌, ◌++◌, length, refl, ap, sym, ◌∙◌, subst, append_assoc, arith}
 use Rattle.std.specs.Prelude.{Option, Some, None, ◌&&◌, ◌||◌, ◌==◌, if◌then◌else◌}
 use Rattle.std.specs.List.{list_all}
@@ -16,7 +16,7 @@ use Rattle.sled_log.specs.Messages.{Chain, Entry, effect_of_entry}
 use Rattle.sled_disk.specs.Format.{◌>>=◌, Record, Begun, outside, within, size, record_bytes, body, is_begin, closes_from, taken, counts, waits, plain, closed, turn_by, turn, turns, marks, takes_event, may_change, entry_at}
 use Rattle.sled_disk.specs.MeaningLaws.{record_bytes-length, Meant, meant_turns}
 use Rattle.sled_disk.specs.Pending.{open_behind, open_by, is_own, event_by, pending_event, pending_events, changes, batch_events}
-use Rattle.sled_disk.specs.Standing.{inside_of, is_begun}
+use Rattle.sled_disk.specs.LogContents.{inside_of, is_begun}
 
 -- ---- whether a batch is open
 
@@ -55,12 +55,12 @@ pub batch-open : (begun : Bool) (inside : List (ℕ × Entry)) → is_open (batc
 batch-open true inside = changes-open true inside
 batch-open false inside = refl
 
--- whether one is open behind all that is pending
+-- whether one is open after everything pending
 pub all-open : (begun : Bool) (inside : List (ℕ × Entry)) (place : ℕ) (rs : List Record) → is_open (batch_events begun inside ++ pending_events place rs) ≡ open_by begun rs
 all-open begun inside place rs =
     open_after-append false (batch_events begun inside) (pending_events place rs) ∙ ap (λ b. open_after b (pending_events place rs)) (batch-open begun inside) ∙ pending-open begun place rs
 
--- ---- one more
+-- ---- one more record
 
 pub body-more : (place : ℕ) (r : Record) (rs : List Record) → (place + size r) + length (body rs) ≡ place + length (body (r ∷ rs))
 body-more place r rs = omega (arith, length-append (record_bytes r) (body rs), record_bytes-length r)
@@ -91,7 +91,7 @@ chains_of_meant q = chains_after effect_of_entry [] q.settled
 abbrev pub open_events : Meant → List (Event Entry)
 open_events q = batch_events (is_begun q.begun) (inside_of q.begun)
 
--- Of a begun batch and these events a part counts: it ends inside no batch. The rest is the batch that is begun then.
+-- Of a batch that has begun and these events, a part counts, which leaves no batch open. The rest is the batch that is open then.
 pub record Settles (q later : Meant) (events : List (Event Entry)) : Type 0 where
   pub done : List (Event Entry)
   pub parts : open_events q ++ events ≡ done ++ open_events later
@@ -137,7 +137,7 @@ taken-all s t (change ∷ inside) is = by (takes s change.0 change.1) refl is (�
         next m is ∙ ap (λ (l : List (Event Entry)). l ++ changes inside) (taken-one s m change.0 change.1 was) ∙ append_assoc s (Change change.0 change.1 ∷ []) (changes inside)
 
 module _ (place : ℕ) (r : Record) (own : is_own r ≡ true) where
-  -- outside a batch, with one record more that begins none
+  -- outside a batch, with one more record, which begins none
   abbrev Counted : List (Event Entry) → Meant → List (Event Entry) → Type 0
   Counted s later events = (later.begun ≡ None) × (chains_of_meant later ≡ chains_after effect_of_entry (chains_after effect_of_entry [] s) events)
 

@@ -12,13 +12,13 @@ use Rattle.sled_log.specs.Events.{Event, Change}
 use Rattle.sled_log.specs.Messages.{Entry, effect_of_entry}
 use Rattle.sled_log.specs.declared.log.LogError.{LogError}
 use Rattle.sled_log.specs.declared.log.LogError.TheVariants.{Memory, Full, ReadFault, WriteFault, Corruption}
-use Rattle.sled_disk.specs.declared.head.Head.{Head}
-use Rattle.sled_disk.specs.declared.reading.RawHead.{RawHead}
+use Rattle.sled_disk.specs.declared.recovery.head.Head.{Head}
+use Rattle.sled_disk.specs.declared.format.record.RawHead.{RawHead}
 use Rattle.sled_disk.specs.Format.{Record, Frame, number, body, may_change, ◌>>=◌, Progress, outside, room_for, takes_change, turn, turns, DescribesTo}
 
 -- ---- records and frames
 
--- the record at the front, and the bytes behind it
+-- the record at the front, and the bytes after it
 unfoldable pub record_at : List ℕ → Option (Record × List ℕ)
 record_at [] = None
 record_at (kind ∷ bytes) =
@@ -26,7 +26,7 @@ record_at (kind ∷ bytes) =
     if nat_lt (length (drop 16 bytes)) (number (take 8 (drop 8 bytes))) then None else
     Some (record { kind = kind; id = number (take 8 bytes); payload = take (number (take 8 (drop 8 bytes))) (drop 16 bytes) }, drop (number (take 8 (drop 8 bytes))) (drop 16 bytes))
 
--- all bytes as records, of which there are so many at most
+-- all bytes as records, at most `most` of them
 unfoldable pub records_in : ℕ → List ℕ → Option (List Record)
 records_in most [] = Some []
 records_in zero (b ∷ bytes) = None
@@ -35,7 +35,7 @@ records_in (suc most) (b ∷ bytes) = record_at (b ∷ bytes) >>= λ x. records_
 unfoldable pub records_of : List ℕ → Option (List Record)
 records_of bytes = records_in (length bytes) bytes
 
--- the body behind a gate, and the bytes behind it
+-- the body after a gate, and the bytes after it
 unfoldable pub body_at : List ℕ → Option (List ℕ × List ℕ)
 body_at bytes =
     if nat_lt (length bytes) 8 then None else
@@ -43,7 +43,7 @@ body_at bytes =
     if nat_lt (length (drop 8 bytes)) (number (take 8 bytes)) then None else
     Some (take (number (take 8 bytes)) (drop 8 bytes), drop (number (take 8 bytes)) (drop 8 bytes))
 
--- the frames up to the first closed gate, of which there are so many at most
+-- the frames up to the first closed gate, at most `most` of them
 unfoldable pub frames_in : ℕ → List ℕ → Option (List Frame)
 frames_in most [] = None
 frames_in zero (gate ∷ bytes) = None
@@ -62,18 +62,18 @@ head_at place r = record { kind = kind_of r.kind; place = place; len = length r.
 abbrev pub effect_of_head : Head → LogKind
 effect_of_head head = log_kind_of head.kind
 
--- how far the code has read, and where it begins
+-- how far the code has read, and the state in which it begins
 abbrev pub Read : Type 0
 Read = Progress Head (List (List Head))
 
 abbrev pub start : Read
 start = outside []
 
--- one record more, if it may stand there; the last argument says whether it is an old mark of a batch
+-- one more record, if it is allowed there; the last argument says whether it is a batch's mark of the old kind
 unfoldable pub step : Read → ℕ → Record → Bool → Option Read
 step p place r mark = turn head_at (takes_change effect_of_head) p place r mark
 
--- the event that a head of a page is
+-- the event that the head of a page's record is
 abbrev pub event_of : LogKind → ℕ → Head → List (Event Head)
 event_of effects.Replace id head = Change id head ∷ []
 event_of effects.Free id head = Change id head ∷ []
@@ -81,23 +81,23 @@ event_of effects.Link id head = Change id head ∷ []
 event_of effects.Skip id head = []
 event_of effects.Corrupted id head = []
 
--- whether a record that marks no batch may stand behind what made these chains
+-- whether a record that marks no batch may follow what made these chains
 abbrev pub may_stand : MessageKind → List (List Head) → ℕ → Bool
 may_stand kinds.Canceled chains id = true
 may_stand kind chains id = may_change effect_of_head (log_kind_of kind) chains id
 
--- the chains behind such a record, by its page and the head that is kept of it
+-- the chains after such a record, by its page and the head that is kept of it
 unfoldable pub step_head : List (List Head) → ℕ → Head → Option (List (List Head))
 step_head chains id head = if may_stand head.kind chains id then Some (chains_after effect_of_head chains (event_of (effect_of_head head) id head)) else None
 
 abbrev pub steps : ℕ → Read → List Record → Option Read
 steps place p rs = turns head_at (takes_change effect_of_head) place p rs
 
--- behind all bytes of a body
+-- after all bytes of a body
 abbrev pub steps_of : ℕ → Read → List ℕ → Option Read
 steps_of place p bytes = records_of bytes >>= λ rs. steps place p rs
 
--- the place of the closed gate, and how far was read, if each record may stand where it stands
+-- the place of the closed gate, and how far was read, if each record is allowed where it is
 unfoldable pub frames_steps : ℕ → Read → List Frame → Option (ℕ × Read)
 frames_steps gate p [] = if nat_lt (gate + room_for p.begun) (2 ^ 63) then Some (gate, p) else None
 frames_steps gate p (frame ∷ frames) = steps (gate + 9) p frame.records >>= λ q. frames_steps (gate + (9 + length (body frame.records))) q frames
@@ -112,11 +112,11 @@ found_at gate p bytes = frames_of bytes >>= λ frames. frames_steps gate p frame
 abbrev pub raw_record : RawHead → List ℕ → Record
 raw_record head payload = record { kind = head.kind; id = head.page; payload = payload }
 
--- the heads as they lie in memory
+-- the heads as they are stored in memory
 abbrev pub chains_of : List (Vec Head) → List (List Head)
 chains_of pages = map (λ chain. chain.items) pages
 
--- A call that answers so has read: at Ok it made this, and Corruption is told where nothing is read.
+-- What a call with this result has read: at Ok it made this, and it returns Corruption only if nothing can be read.
 abbrev pub Made : {T S : Type 0} → Result T LogError → S → Option S → Type 0
 Made (Ok answer) now read = read ≡ Some now
 Made (Err Memory) now read = Unit {0}
@@ -125,14 +125,14 @@ Made (Err Full) now read = ⊥
 Made (Err ReadFault) now read = ⊥
 Made (Err WriteFault) now read = ⊥
 
--- the entry that a head of these bytes stands for
+-- the entry that a head of these bytes represents
 abbrev pub entry_in : List ℕ → Head → Entry
 entry_in bytes head = record {
   message = record { kind = head.kind; payload = take head.len (drop (head.place + 17) bytes) };
   place = record { lsn = pos head.place; pointer = Inline head.place; log_size = 17 + head.len };
 }
 
--- The bytes describe events up to a closed gate at this place, and the heads stand for the chains that these make.
+-- The bytes describe events up to a closed gate at this place, and the heads represent the chains that these make.
 pub record Holds (bytes : List ℕ) (gate : ℕ) (heads : List (List Head)) : Type 0 where
   pub events : List (Event Entry)
   pub described : DescribesTo gate bytes events

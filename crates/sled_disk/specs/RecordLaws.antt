@@ -1,4 +1,4 @@
--- Reading records one after the other.
+-- Reading records one after another.
 use Rattle.std.proofs.Common.{◌≡◌, ℕ, zero, suc, ◌+◌, ◌≤◌, List, [], ◌∷◌, length, take, drop, refl, ap, sym, ◌∙◌, subst, inl, inr, arith}
 use Rattle.std.specs.Prelude.{Option, Some, None, IfSome}
 use Rattle.std.proofs.lemmas.Bool.{cases_lt, lt-ltb, le-ltb}
@@ -6,11 +6,11 @@ use Rattle.std.proofs.lemmas.List.{length-drop, length-take}
 use Rattle.sled_disk.specs.Format.{◌>>=◌, Record, number, size}
 use Rattle.sled_disk.specs.Reading.{record_at, records_in, records_of}
 
--- a record at the front of bytes, and those behind it
+-- a record at the front of bytes, and the bytes after it, have their length
 abbrev pub Whole : List ℕ → Option (Record × List ℕ) → Type 0
 Whole bytes found = IfSome found (λ x. size x.0 + length x.1 ≡ length bytes)
 
--- a record and what is behind it are all bytes
+-- a record and what follows it are all bytes
 pub record_at-whole : (bytes : List ℕ) → Whole bytes (record_at bytes)
 unfolding record_at
 record_at-whole [] = tt
@@ -24,7 +24,7 @@ record_at-whole (kind ∷ bytes) =
       ]
     ]
 
--- the records behind a first one
+-- a record, and the records after it
 abbrev pub and_then : Record → Option (List Record) → Option (List Record)
 and_then r rest = rest >>= λ rs. Some (r ∷ rs)
 
@@ -41,7 +41,7 @@ same (suc m) (suc n) (byte ∷ bytes) a b = by (record_at (byte ∷ bytes)) (rec
     by None w next = refl
     by (Some x) w next = ap (and_then x.0) (next x.1 (omega (arith, w)) (omega (arith, w)))
 
--- a record at the front, and the records behind it
+-- a record at the front, and the records after it
 pub records_of-more : (bytes : List ℕ) (r : Record) (rest : List ℕ) → Some (r, rest) ≡ record_at bytes → records_of bytes ≡ and_then r (records_of rest)
 unfolding records_of records_in record_at
 records_of-more [] r rest is = absurd cc

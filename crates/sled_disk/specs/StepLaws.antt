@@ -1,4 +1,4 @@
--- What a record of each kind makes, one more behind a file and its records.
+-- What one more record makes, of each kind, after a file and its records.
 use Rattle.std.proofs.Common.{◌≡◌, ℕ, ◌^◌, ◌<◌, Bool, true, false, List, [], ◌∷◌, ◌++◌, length, refl, ap, sym, ◌∙◌, arith}
 use Rattle.std.specs.Prelude.{Option, Some, None, ◌==◌}
 use Rattle.std.proofs.lemmas.Bool.{eqb-true, eq-eqb}
@@ -6,12 +6,12 @@ use Rattle.sled_base.specs.Kinds.{log_kind_of, byte_of, kind_of_byte_of}
 use Rattle.sled_base.specs.declared.kinds.MessageKind.{MessageKind}
 use Rattle.sled_base.specs.declared.kinds.MessageKind.TheVariants as kinds
 use Rattle.sled_log.specs.Calls.{can_append}
-use Rattle.sled_disk.specs.declared.head.Head.{Head}
+use Rattle.sled_disk.specs.declared.recovery.head.Head.{Head}
 use Rattle.sled_disk.specs.EncodingLaws.{number_bytes-length, number-again}
 use Rattle.sled_disk.specs.Format.{◌>>=◌, Record, Begun, outside, within, is_closing, closes_from, begin_record, closing_record, taken, waits, plain, turn_by, takes_change, is_changing}
 use Rattle.sled_disk.specs.Pending.{open_behind}
 use Rattle.sled_disk.specs.Reading.{Read, step, step_head, head_at, effect_of_head}
-use Rattle.sled_disk.specs.Standing.{inside_of, begins_at, chains_now}
+use Rattle.sled_disk.specs.LogContents.{inside_of, begins_at, chains_now}
 
 abbrev chains : Type 0
 chains = List (List Head)
@@ -19,7 +19,7 @@ chains = List (List Head)
 abbrev takes : chains → ℕ → Head → Option chains
 takes = takes_change effect_of_head
 
--- with a change more
+-- with one more change
 pub taken-more : (s t u : chains) (inside : List (ℕ × Head)) (id : ℕ) (e : Head) → taken head_at takes s inside ≡ Some t → takes t id e ≡ Some u → taken head_at takes s (inside ++ (id, e) ∷ []) ≡ Some u
 taken-more s t u [] id e is one =
     let same : s ≡ t = cc in by (takes s id e) (ap (λ (l : chains). takes l id e) same ∙ one)
@@ -36,7 +36,7 @@ taken-more s t u (change ∷ inside) id e is one = by (takes s change.0 change.1
 
 -- ---- the record of a message of a page
 
--- what was made of it, whether a batch is begun or not
+-- what was made of it, whether a batch has begun or not
 pub record IsTaken (last : Read) (batch : Option ℕ) (place : ℕ) (r : Record) (mark : Bool) (heads : chains) : Type 0 where
   pub next : Read
   pub taken : step last place r mark ≡ Some next

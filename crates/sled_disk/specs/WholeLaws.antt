@@ -1,4 +1,4 @@
--- What is read of a whole file is what it describes, and what is described is read.
+-- Reading a whole file returns what it describes, and what it describes is read.
 use Rattle.std.proofs.Common.{◌≡◌, ◌≢◌, ℕ, ◌+◌, ◌^◌, ◌<◌, Bool, true, false, ltb, List, [], ◌∷◌, ◌++◌, length, take, drop, refl, ap, sym, ◌∙◌, subst, append_assoc, arith}
 use Rattle.std.specs.Prelude.{Option, Some, None, nat_lt, if◌then◌else◌}
 use Rattle.std.proofs.lemmas.Bool.{lt-ltb, ltb-true}
@@ -7,7 +7,7 @@ use Rattle.sled_log.specs.Events.{Event}
 use Rattle.sled_log.specs.Messages.{Entry}
 use Rattle.sled_disk.specs.Format.{◌>>=◌, opening, Frame, frames_bytes, frames_turns, takes_change, outside, Progress, room_for, Describes, IsBytes}
 use Rattle.sled_disk.specs.Reading.{Read, start, frames_of, frames_steps, found_at, head_at, effect_of_head, entry_in, Holds}
-use Rattle.sled_disk.specs.Opened.{AreRead}
+use Rattle.sled_disk.specs.RecoveredHeads.{AreRead}
 use Rattle.sled_disk.specs.FrameLaws.{AreFrames, frames-take, frames-again}
 use Rattle.sled_disk.specs.MeaningLaws.{gate_after, gate_after-is, frames_steps-are, FramesSeen, frames_seen, frames-meant, frames-read, same-room, same-chains, IsMeant}
 use Rattle.sled_disk.specs.EncodingLaws.{IsBytes-drop}
@@ -17,7 +17,7 @@ pub if-true : {A : Type 0} (b : Bool) (x y : A) → (if b then Some x else None)
 if-true true x y e = (refl, cc)
 if-true false x y e = absurd cc
 
--- the frames were read, and there is room behind them
+-- the frames were read, and there is room after them
 pub record AreStepped (gate : ℕ) (read : Read) (frames : List Frame) : Type 0 where
   pub turned : frames_turns head_at (takes_change effect_of_head) 8 start frames ≡ Some read
   pub ends : gate_after 8 frames ≡ gate
@@ -41,7 +41,7 @@ stepped gate read frames e = by (frames_turns head_at (takes_change effect_of_he
           small = subst (λ (n : ℕ). n + room_for read.begun < 2 ^ 63) end (subst (λ (q : Read). gate_after 8 frames + room_for q.begun < 2 ^ 63) same (ltb-true (gate_after 8 frames + room_for q.begun) (2 ^ 63) t.0));
         }
 
--- frames and what is behind them, after the opening bytes
+-- frames and what follows them, after the opening bytes
 parts : (frames : List Frame) (rest : List ℕ) → (opening ++ frames_bytes frames) ++ 0 ∷ rest ≡ opening ++ (frames_bytes frames ++ 0 ∷ rest)
 parts frames rest = append_assoc opening (frames_bytes frames) (0 ∷ rest)
 

@@ -1,4 +1,4 @@
-//! A disk as a log sees it: bytes that are read, written and synced, and what a crash leaves of them.
+//! The contract of a disk: bytes that a log reads, writes and syncs, and what a crash leaves of them.
 
 ghost use Rattle.std.specs.Prelude.{◌≡◌, ◌+◌, ◌≤◌, ◌<◌, ◌⊎◌, List, ℕ, length, take, drop, get_or, IfOk, OnOk, IfErr};
 ghost use Rattle.sled_log.specs.Calls.{Counts, HasCause, one_more};
@@ -22,35 +22,36 @@ use sled_log::LogError;
 pub use staged::{StagedDisk, Task, do_task};
 pub use system::SystemFile;
 
-/// A disk: bytes in order, which are read and written at a place.
+/// A disk: a sequence of bytes, which are read and written by their place.
 ///
-/// Between two syncs a crash may leave any bytes in the ranges that were written, and past the old end; all other bytes stay.
-/// After a sync it leaves what a read gives. ReadFault: the device failed to read, and nothing changed. WriteFault: it failed to write
-/// or to sync, and may have done any part of it, which isn't durable. Each is reported only where the device failed in that call, and
-/// is counted. Memory is for `make_room` alone.
+/// A crash may leave any bytes in the ranges that were written since the last sync. If these reach past the old end, it may leave any
+/// length up to theirs. It keeps all other bytes. Right after a sync it leaves what a read returns.
 ///
-/// What is said of bytes and of crash states holds where the device tells its bytes. A file whose reads may give anything is a
-/// disk too, of which the rest holds: the answers' kinds, and the counts.
+/// ReadFault: the device failed to read, and nothing changed. WriteFault: it failed to write or to sync, and may have done any part of
+/// that, which is not durable. Every such error is counted. Only `make_room` returns Memory, and no call returns Full or Corruption.
+///
+/// What the contract says about bytes and crash states holds if the device tells its bytes. A file whose reads may return any bytes is also
+/// a disk. For it the rest of the contract holds: which errors a call may return, and the counts.
 pub trait Disk: Drop {
-    /// That the device tells its bytes: a read gives what was written there, and a crash leaves what was synced.
+    /// The premise that the device tells its bytes: a read returns what was written there, and a crash keeps what was synced.
     ghost tells: { Type 0 };
 
-    /// The bytes that a read gives.
+    /// The bytes that reads return.
     ghost seen: { Self → List ℕ };
 
-    /// The crash states of this moment: the bytes that a crash now may leave.
+    /// The crash states of the current moment: the bytes that a crash now may leave.
     ghost may_leave: { Self → List ℕ → Type 0 };
 
-    /// The moment, as a number that doesn't fall.
+    /// The current moment, a number that never decreases.
     ghost moment: { Self → ℕ };
 
-    /// The crash states of some moment from that one on, during a call or between two.
+    /// The crash states since a moment: what a crash at that moment or later, during a call or between two calls, might have left.
     ghost left_since: { Self → ℕ → List ℕ → Type 0 };
 
-    /// How often it was read, and how often the device has failed.
+    /// How often the disk was read, and how often the device failed to read and to write.
     ghost counts: { Self → Counts };
 
-    /// How many bytes there are. It is a read.
+    /// Returns the number of bytes. It counts as a read.
     fn len(&mut self) -> Result<u64, LogError>
         ensures len { tells → IfOk result (λ len. len ≡ length (seen self.old)) }
         ensures seen { tells → seen self.new ≡ seen self.old }
@@ -60,7 +61,7 @@ pub trait Disk: Drop {
         ensures cause { HasCause (counts self.old) (counts self.new) result }
         ensures reads { (counts self.new).reads ≡ one_more (counts self.old).reads };
 
-    /// Reads the bytes at a place. A read past the end fails.
+    /// Reads the bytes at place `at` into all of `into`. A read past the end fails with ReadFault.
     fn read_at(&mut self, at: u64, into: &mut [u8]) -> Result<(), LogError>
         ensures within { tells → OnOk result (at + length into.old ≤ length (seen self.old)) }
         ensures bytes { tells
@@ -73,9 +74,10 @@ pub trait Disk: Drop {
         ensures cause { HasCause (counts self.old) (counts self.new) result }
         ensures reads { (counts self.new).reads ≡ one_more (counts self.old).reads };
 
-    /// Makes room for writes of so many bytes together, four at most, and the syncs after them. A disk that keeps what is written until
-    /// it is handed on takes its memory here, so they need none; others have nothing to do. Nothing is written: no byte, crash state or
-    /// count changes.
+    /// Reserves memory for up to four writes of `len` bytes in total, and for the syncs after them.
+    ///
+    /// A disk that keeps written bytes until its caller fetches them allocates here, so that these writes need no memory. Other disks do
+    /// nothing. Nothing is written: no byte, crash state or count changes.
     fn make_room(&mut self, len: usize) -> Result<(), LogError>
         ensures seen { tells → seen self.new ≡ seen self.old }
         ensures stop { tells → LeavesNoMore (may_leave self.old) (may_leave self.new) }
@@ -84,8 +86,9 @@ pub trait Disk: Drop {
         ensures only { IfErr result (λ e. e ≡ Memory) }
         ensures counts { counts self.new ≡ counts self.old };
 
-    /// Writes over what is there, and past the end. Until a sync, a crash may leave any bytes in the range, also where the write
-    /// fails. A write that begins past the end fails.
+    /// Writes the bytes at place `at`, over what is there and past the end. A write that begins past the end fails.
+    ///
+    /// Until a sync, a crash may leave any bytes in the range, even if the write fails.
     fn write_at(&mut self, at: u64, bytes: &[u8]) -> Result<(), LogError>
         ensures within { tells → OnOk result (at ≤ length (seen self.old)) }
         ensures written { tells
@@ -97,7 +100,8 @@ pub trait Disk: Drop {
         ensures cause { HasCause (counts self.old) (counts self.new) result }
         ensures reads { (counts self.new).reads ≡ (counts self.old).reads };
 
-    /// Makes durable what was written: a crash leaves what a read gives. Where it fails, nothing more than before is known.
+    /// Makes durable what was written: a crash then leaves what a read returns. If it fails, nothing more than before is known, and no
+    /// crash state is added.
     fn sync(&mut self) -> Result<(), LogError>
         ensures durable { tells → OnOk result (Only (seen self.old) (may_leave self.new)) }
         ensures seen { tells → OnOk result (seen self.new ≡ seen self.old) }
@@ -107,8 +111,11 @@ pub trait Disk: Drop {
         ensures cause { HasCause (counts self.old) (counts self.new) result }
         ensures reads { (counts self.new).reads ≡ (counts self.old).reads };
 
-    /// Reads the byte at a place, and writes it again: no byte and no crash state changes, since a byte isn't torn. The next sync then
-    /// makes durable what a read gives there, also where the system took it for durable after a sync that failed.
+    /// Reads the byte at place `at`, and writes the same byte again. No byte changes and no crash state is added, since a byte is never
+    /// torn.
+    ///
+    /// The next sync then makes durable what a read returns there, even if the system wrongly took it for durable after a failed sync. It
+    /// counts as a read.
     fn write_again(&mut self, at: u64) -> Result<(), LogError>
         ensures seen { tells → seen self.new ≡ seen self.old }
         ensures stop { tells → LeavesNoMore (may_leave self.old) (may_leave self.new) }
@@ -117,33 +124,33 @@ pub trait Disk: Drop {
         ensures cause { HasCause (counts self.old) (counts self.new) result }
         ensures reads { (counts self.new).reads ≡ one_more (counts self.old).reads };
 
-    /// How often it was read. Each count stays at `u64::MAX`.
+    /// Returns how often the disk was read. This count and the next two stop at `u64::MAX`.
     fn reads(&self) -> u64
         ensures { result ≡ (counts self.now).reads };
 
-    /// How often the device failed to read.
+    /// Returns how often a read failed.
     fn failed_reads(&self) -> u64
         ensures { result ≡ (counts self.now).failed_reads };
 
-    /// How often the device failed to write, or to sync.
+    /// Returns how often a write or a sync failed.
     fn write_faults(&self) -> u64
         ensures { result ≡ (counts self.now).write_faults };
 
-    /// Its bytes are bytes.
+    /// Each byte is below 256.
     ghost are_bytes: { (disk : Self) (i : ℕ) → tells → get_or (seen disk) i 0 < 256 };
 
-    /// What a read gives is a crash state of this moment.
+    /// What a read returns is a crash state of the current moment.
     ghost seen_now: { (disk : Self) → tells → may_leave disk (seen disk) };
 
-    /// The crash states of this moment are among those since it,
+    /// The crash states of the current moment are among those since it.
     ghost left_now: { (disk : Self) (left : List ℕ) → tells → may_leave disk left
         → left_since disk (moment disk) left };
 
-    /// and they are all of them.
+    /// There are no other crash states since the current moment.
     ghost only_now: { (disk : Self) (left : List ℕ) → tells → left_since disk (moment disk) left
         → may_leave disk left };
 
-    /// What a crash since some moment might have left, it might have left since an earlier one.
+    /// The crash states since a moment are among those since any earlier moment.
     ghost since_earlier: { (disk : Self) (t u : ℕ) (left : List ℕ) → tells → t ≤ u
         → left_since disk u left → left_since disk t left };
 }

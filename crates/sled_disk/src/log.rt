@@ -1,40 +1,41 @@
 //! A log on a disk.
 
-ghost use Rattle.std.specs.Prelude.{◌≡◌, ◌≢◌, ◌≤◌, ◌<◌, ◌+◌, ◌-◌, ◌^◌, ◌⊎◌, ◌++◌, ◌↔◌, List, [], ◌∷◌, true, false, length, is_ok, IfOk, IfErr, OnOk, OnErr, IsErrOf, vec_len, vec_capacity};
+ghost use Rattle.std.specs.Prelude.{◌≡◌, ◌≢◌, ◌≤◌, ◌<◌, ◌+◌, ◌^◌, ◌⊎◌, ◌++◌, ◌↔◌, List, [], ◌∷◌, true, length, is_ok, IfOk, IfErr, OnOk, OnErr, IsErrOf, vec_len, vec_capacity};
 ghost use Rattle.std.specs.List.{AllByRecursion};
 ghost use Rattle.sled_log.specs.Calls.{HasGrown, HasCause, can_append};
-ghost use Rattle.sled_log.specs.Events.{Event, Change};
+ghost use Rattle.sled_log.specs.Events.{Event};
 ghost use Rattle.sled_log.specs.LogState.{now};
-ghost use Rattle.sled_log.specs.Messages.{Entry, effect_of_entry, message, placed_entry};
+ghost use Rattle.sled_log.specs.Messages.{Entry, effect_of_entry};
 ghost use Rattle.sled_log.specs.declared.log.LogError.TheVariants.{Memory, Full, ReadFault, WriteFault, Corruption};
 ghost use Rattle.sled_disk.specs.Crash.{BytesLeft, IsTornOf};
 ghost use Rattle.sled_disk.specs.Disk.{Only, overlaid, LeavesTheSame};
 ghost use Rattle.sled_disk.specs.Format.{Describes, opening};
-ghost use Rattle.sled_disk.specs.GoesOn.{GoesOn};
-ghost use Rattle.sled_disk.specs.Counting.{IsLooked};
+ghost use Rattle.sled_disk.specs.ReaderState.{GoesOn};
+ghost use Rattle.sled_disk.specs.CountedMessages.{IsLooked};
 ghost use Rattle.sled_disk.specs.Cursor.{IsAmong};
 ghost use Rattle.sled_disk.specs.Names.{moves_in, messages_in, all_messages};
-ghost use Rattle.sled_disk.specs.OnDisk.{Rests};
+ghost use Rattle.sled_disk.specs.DiskReads.{Rests};
 ghost use Rattle.sled_disk.specs.HeadLaws.{are_heads-prop, end_by-prop};
-ghost use Rattle.sled_disk.specs.Opened.{AllEndBy, AreHeads};
+ghost use Rattle.sled_disk.specs.RecoveredHeads.{AllEndBy, AreHeads};
 ghost use Rattle.sled_disk.specs.Reading.{chains_of, effect_of_head};
-ghost use Rattle.sled_disk.specs.Ready.{IsLogOf, IsEither, LeavesTheMeaning};
-ghost use Rattle.sled_disk.specs.Standing.{Stands, records_behind, events_in, progress_in};
-ghost use Rattle.sled_disk.specs.Waiting.{state_of, place_of, said_of, events_of, progress_of, records_with, batch_of, IsFullFor};
+ghost use Rattle.sled_disk.specs.RecoveredLog.{IsLogOf, IsEither, LeavesTheMeaning};
+ghost use Rattle.sled_disk.specs.LogContents.{Stands, records_behind, events_in, progress_in};
+ghost use Rattle.sled_disk.specs.PendingFrame.{state_of, place_of, events_of, progress_of, records_with, batch_of, IsFullFor};
 
-use crate::abandoning::{finish, gate_behind};
 use crate::disk::Disk;
-use crate::head::Head;
-use crate::names::Names;
-use crate::next_frame::NextFrame;
-use crate::pages::{is_change, take_head};
+use crate::format::next_frame::NextFrame;
 use crate::reader::Reader;
+use crate::recovery::abandoning::{finish, gate_behind};
+use crate::recovery::chains::{is_change, take_head};
+use crate::recovery::head::Head;
+use names::Names;
 use sled_base::{MessageKind, PageId};
 use sled_log::{Log, LogError};
 use std::alloc::Global;
 
 mod calls;
 mod finding;
+mod names;
 mod naming;
 mod putting;
 mod served;
@@ -42,16 +43,19 @@ mod served;
 // the opening bytes and a closed gate
 const EMPTY: [u8; 9] = [0x53, 0x4c, 0x50, 0x43, 0x4c, 0x4f, 0x47, 0x31, 0];
 
-/// A log on a disk, which `create` made empty once, and on which each `open` finds all that is durable.
+/// A log on a disk. `create` writes an empty one, and each `open` finds everything durable in it. Its `size` is the length of the durable
+/// file, and its `stable_offset` one byte less, the place of the closed gate at the end.
 ///
-/// What is pending waits in memory, and is written as one frame: after a closed gate, which is opened once the frame is durable. So
-/// at any moment a crash leaves all that was durable, and all of a frame or nothing of it, and what it leaves opens again. A batch may go
-/// over several frames: it counts once the record that closes it is in one, and where a crash cuts it before, `open` marks it as abandoned.
+/// Pending messages are kept in memory, and written as one frame after a closed gate, which is opened once the frame is durable. So a crash
+/// at any moment leaves everything that was durable, and either all of a frame or none of it. What it leaves can be opened again. A batch
+/// may span several frames. It counts once the record that closes it is in a frame; if a crash cuts it before that, `open` marks it as
+/// abandoned.
 ///
-/// Full: the place of the next gate would be above `i64::MAX`. Memory: an allocation failed, in the log or for what the disk is to
-/// keep; `make_stable`, `seal` and `cancel` need none. Corruption is for a place that the log doesn't hold, and a change that fits no
-/// page. After a WriteFault the log is called no more: what was durable is found by opening the disk again, and a file from
-/// `FileDisk::open` on.
+/// Full: the place of the next gate, or of the one after the frame that closes an open batch, would be above `i64::MAX`. Memory: an
+/// allocation failed, in the log or in the disk; `make_stable`, `seal` and `cancel` never return it. Corruption: the log does not hold the
+/// place or the blob that was asked for (it stores no blobs), or the page cannot take the change; a call that meets its preconditions never
+/// returns it if the disk tells its bytes. After a WriteFault the log is not usable any more. To find what was durable, open the disk
+/// again, or the file with `FileDisk::open`.
 #[derive(Drop)]
 pub struct DiskLog<D: Disk> {
     alloc: Global,
@@ -77,10 +81,11 @@ pub struct DiskLog<D: Disk> {
 }
 
 impl<D: Disk> DiskLog<D> {
-    /// Makes the disk an empty file: the opening bytes and a closed gate, durable.
+    /// Writes an empty log to the front of the disk, and makes it durable: the opening bytes and a closed gate, nine bytes together. Bytes
+    /// after these stay, and mean nothing.
     ///
-    /// Memory: nothing was done. WriteFault: the device failed to write or to sync, and the first nine bytes may be any. So may they be
-    /// after a crash during this call: a file whose `create` did not answer Ok has no log in it, and may be made anew.
+    /// Memory: nothing was done. WriteFault: the device failed to write or to sync, and the first nine bytes may be any. They may also be
+    /// any after a crash during this call. So a file whose `create` did not return Ok has no log in it, and can be created again.
     pub fn create(disk: &mut D) -> Result<(), LogError>
         ensures bytes { D.tells
             → OnOk result (D.seen disk.new ≡ overlaid (D.seen disk.old) 0 (opening ++ 0 ∷ [])) }
@@ -99,20 +104,23 @@ impl<D: Disk> DiskLog<D> {
         disk.sync()
     }
 
-    /// The log of a file on a disk, which is read, and of which the last open gate is written again and synced: all that the file describes
-    /// is durable, and nothing is pending. Where the file ends inside a batch, a frame is written that says so; it describes the same.
+    /// Opens the log of the file on a disk. It reads the file, writes the gate that was opened last again, and syncs. Everything that the
+    /// file describes is then durable, and nothing is pending. If the file ends inside a batch, a frame is written that marks the batch as
+    /// abandoned; the file still describes the same.
     ///
-    /// An `append` that leaves `segment_size` bytes of records pending writes them, which takes two syncs. So between two
-    /// flushes a log syncs twice for each `segment_size` bytes: some thousands keep little in memory, a million suits many writes in a
-    /// row. For every `clean_every` messages that are appended one is due to be moved, the first of the
-    /// file before all others (0: none, and no append reads). An append looks for the next one as long as it is not known, also before it
-    /// is due: over 256 records and ends of frames at most, by 512 short reads. A batch that the file had at its opening is gone over before
-    /// its first message is known. Where a read fails, or more stands before the next one than the appends since the last name have gone
-    /// over, none is due until a later append has found it.
+    /// An `append` that brings the pending records to `segment_size` bytes or more writes them, which takes two syncs. So between two
+    /// flushes a log syncs twice for each `segment_size` bytes. Some thousands keep little in memory; a million suits many writes in a row.
     ///
-    /// Corruption: the file describes no events, as one with fewer than nine bytes; no crash of a log leaves such a file. ReadFault and
-    /// WriteFault: the device failed to read, or to write or to sync. Memory: an allocation failed. At an error the disk comes
-    /// back. But for a WriteFault no crash state came to it; and whatever was written, it describes what the file described.
+    /// For every `clean_every` appended messages one is due to be moved, in the order of the file from its first message on. With 0 none
+    /// ever is, and no append reads. Otherwise an append looks for the next one as long as it is not known, even before it is due. It reads
+    /// at most 256 records and ends of frames, in at most 512 short reads. If a batch was in the file when it was opened, its whole extent
+    /// is read before its first message is known. If a read fails, or if there is more before the next message than the appends since the
+    /// last one have covered, none is due until a later append has found it.
+    ///
+    /// Corruption: the file describes no events, for example because it has fewer than nine bytes. No crash of a log leaves such a file.
+    /// ReadFault: the device failed to read. WriteFault: it failed to write or to sync. Memory: an allocation failed. An error returns the
+    /// disk. It still describes what the file described, whatever was written. Unless the error is a WriteFault, no byte changed and no
+    /// crash state was added.
     pub fn open(
         alloc: Global,
         mut disk: D,
@@ -160,12 +168,12 @@ impl<D: Disk> DiskLog<D> {
         }
     }
 
-    /// The log of a file that was read and is durable: the last step of `open`, behind `Reader::begin`, `Reader::read` and
-    /// `Reader::make_durable`, for a caller who goes on after a fault. The two numbers are those of `open`.
+    /// Opens the log of a file that was read and made durable. This is the last step of `open`, after `Reader::begin`, `Reader::read` and
+    /// `Reader::make_durable`, for a caller that resumes after a fault. `segment_size` and `clean_every` are those of `open`.
     ///
-    /// ReadFault: the device failed to read. Memory: an allocation failed. Corruption: the file describes no events. WriteFault: it ends
-    /// inside a batch, and the device failed to write what says so. At an error the disk comes back, and beside it the reader. But for a
-    /// WriteFault the disk was read at most, and with both the call can be made again, and goes on where it was.
+    /// ReadFault: the device failed to read. Memory: an allocation failed. Corruption: the file describes no events. WriteFault: the file
+    /// ends inside a batch, and the device failed to write that it is abandoned. An error returns the reader and the disk. Unless it is a
+    /// WriteFault, the disk was only read, and the call can be repeated with both; it resumes where it was.
     pub fn open_with(
         alloc: Global,
         mut reader: Reader,
@@ -231,14 +239,14 @@ impl<D: Disk> DiskLog<D> {
         })
     }
 
-    /// The disk, to be looked at.
+    /// Returns a reference to the disk.
     pub fn disk(&self) -> &D
         ensures { result.now ≡ self.now.disk }
     {
         &self.disk
     }
 
-    /// Whether it holds no page, durable or pending.
+    /// Returns whether the log holds no page, durable or pending.
     pub fn is_empty(&self) -> bool
         ensures pages { result ≡ true ↔ self.now.pages.items ≡ [] }
         ensures told { D.tells → self.now.usable ≡ true → (result ≡ true
@@ -247,7 +255,7 @@ impl<D: Disk> DiskLog<D> {
         self.pages.as_slice().is_empty()
     }
 
-    /// Ends the log, and makes nothing durable.
+    /// Closes the log and returns its disk. It makes nothing durable, so what is pending is lost.
     pub fn into_disk(self) -> D
         ensures { result ≡ self.disk }
     {

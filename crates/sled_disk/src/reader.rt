@@ -1,28 +1,31 @@
-//! Reading a file from record to record.
+//! Reading a file record by record.
 
-ghost use Rattle.std.specs.Prelude.{◌≡◌, ◌≤◌, ◌<◌, List, [], ℕ, length, None};
+ghost use Rattle.std.specs.Prelude.{◌≡◌, ◌≤◌, [], None};
 ghost use Rattle.std.proofs.Props.{props};
 ghost use Rattle.std.specs.List.{AllByRecursion};
-ghost use Rattle.sled_disk.specs.Opened.{AreHeadsBy};
+ghost use Rattle.sled_disk.specs.RecoveredHeads.{AreHeadsBy};
 ghost use Rattle.sled_disk.specs.Reading.{chains_of};
-ghost use Rattle.sled_disk.specs.TakenBy.{IsWaiting};
+ghost use Rattle.sled_disk.specs.BatchChanges.{IsWaiting};
 
-use crate::head::Head;
-use crate::targets::Targets;
-use crate::window::Window;
+use crate::recovery::head::Head;
 use sled_base::PageId;
 use std::alloc::Global;
 use std::collections::VecDeque;
+use targets::Targets;
+use window::Window;
 
+mod parts;
 mod steps;
+mod targets;
 mod waiting;
+mod window;
 
-/// A reader of the file on a disk. It keeps its place and the heads of the records before it, so after a read that failed, or
-/// without memory, it goes on where it was. `DiskLog::open_with` makes the log of the file.
+/// A reader of the file on a disk. It keeps its place and the heads of the records before it, so after a failed read or a failed allocation
+/// it resumes where it was. `DiskLog::open_with` makes the log of the file from it.
 ///
-/// Of the file it holds a window of 64 KiB at most, however long frames and payloads are; payloads are skipped. Besides it keeps
-/// 8 bytes, or 16 where their vector has grown, for each place that a batch's mark named and that is still to come, and some 32 for each
-/// change of a batch that is begun, until the record that closes it.
+/// It holds at most 64 KiB of the file, however long frames and payloads are, and skips payloads. In addition it keeps 8 bytes, or 16 if
+/// their vector has grown, for each place that the mark of a batch named and that is still to come; and about 32 bytes for each change of a
+/// batch that has begun, until the record that closes it.
 #[derive(Drop)]
 pub struct Reader {
     alloc: Global,

@@ -3,7 +3,7 @@ use Rattle.std.proofs.Common.{◌≤◌, ℕ, Option, None, Some, List, [], ◌�
 use Rattle.sled_log.specs.LogState.{LogState}
 use Rattle.sled_log.specs.Messages.{Entry}
 use Rattle.sled_log.specs.declared.log.Log.{Ghosts}
-use Rattle.sled_disk.specs.Ready.{IsLogOf}
+use Rattle.sled_disk.specs.RecoveredLog.{IsLogOf}
 use Rattle.sled_disk.specs.Served.{StaysALog}
 use Rattle.sled_disk.specs.declared.disk.Disk as disks
 use Rattle.sled_disk.specs.declared.disk.callers_file.CallersFile as callers

@@ -5,7 +5,7 @@ use Rattle.sled_base.specs.declared.types.Error.{Error}
 use Rattle.sled_log.specs.declared.log.Log.{Ghosts}
 use Rattle.sled_disk.specs.Disk.{overlaid}
 use Rattle.sled_disk.specs.Format.{opening}
-use Rattle.sled_disk.specs.Ready.{IsLogOf}
+use Rattle.sled_disk.specs.RecoveredLog.{IsLogOf}
 use Rattle.sled_disk.specs.Served.{StaysALog}
 use Rattle.sled_disk.specs.Staged.{seen_of}
 use Rattle.sled_disk.specs.declared.disk.Disk as disks

@@ -1,10 +1,10 @@
--- Opening a cache over a file, of which the program hands in the bytes.
+-- Opening a cache over a file whose bytes the program reads and hands in.
 use Rattle.std.specs.Prelude.{◌≡◌, ◌⊎◌, ℕ, ⊤, false, List, [], ◌∷◌, ◌++◌, Option, None, Some, Ok, Err}
 use Rattle.sled_base.specs.declared.types.Error.{Error}
 use Rattle.sled_base.specs.declared.types.Error.TheVariants.{Unsupported}
 use Rattle.sled_base.specs.declared.types.Why.{Why}
 use Rattle.sled_disk.specs.Format as format
-use Rattle.sled_disk.specs.Ready.{IsLogOf}
+use Rattle.sled_disk.specs.RecoveredLog.{IsLogOf}
 use Rattle.sled_disk.specs.Served.{StaysALog}
 use Rattle.sled_disk.specs.Staged.{Forgets, seen_of}
 use Rattle.sled_log.specs.declared.log.Log.{Ghosts}
@@ -28,7 +28,7 @@ use Rattle.sled_handle.specs.declared.store.Store.TheVariants.{Memory, File, Beg
 abbrev pub IsFailure : ℕ → Type 0
 IsFailure status = (error : Error) × (status ≡ number_of_error error)
 
--- A cache was opened with such settings, in which nothing is wrong, and no batch is open.
+-- A cache was opened with these settings, none of which is invalid, and no batch is open.
 pub record IsOpened {L : Type 0} (config : Config) (cache : Cache L) : Type 0 where
   pub faultless : fault_of config ≡ None
   pub closed : cache.batch ≡ false
@@ -36,15 +36,15 @@ pub record IsOpened {L : Type 0} (config : Config) (cache : Cache L) : Type 0 wh
 abbrev pub config_of : FileSettings → Config
 config_of settings = record { cache_capacity = settings.cache_capacity; idgen_persist_interval = settings.idgen_persist_interval; segment_size = settings.segment_size }
 
--- the status tells what is wrong with the settings, where something is
+-- if a setting is invalid, the status says which one
 abbrev pub TellsFault : Config → ℕ → Type 0
 TellsFault config status = (why : Why) → fault_of config ≡ Some why → status ≡ number_of_error (Unsupported why)
 
--- so many bytes has the file of a log that holds nothing
+-- the number of bytes in the file of a log that holds nothing
 abbrev pub new_size : ℕ
 new_size = 9
 
--- the bytes of a file once there is a log in it: those that it has, or those of a log that holds nothing
+-- the bytes of a file once it has a log: its own, or those of a log that holds nothing if it is empty
 abbrev pub with_log : List ℕ → List ℕ
 with_log [] = format.opening ++ 0 ∷ []
 with_log (byte ∷ bytes) = byte ∷ bytes
@@ -55,14 +55,14 @@ module _ {F : Type 0} {f : callers.Ghosts F} {d : disks.Ghosts (StagedDisk F f)}
   IsUnused log = (l.bytes log ≡ new_size) × (log.pages.items ≡ [])
 
 module _ {F : Type 0} {f : callers.Ghosts F} {d : disks.Ghosts (StagedDisk F f)} {l : Ghosts (FileLog d)} where
-  -- An opening with these settings goes on: bytes are needed, or the cache is open, or the handle is closed and it is told why.
+  -- An opening with these settings continues: bytes are needed, or the cache is open, or the handle is closed and the status is that of the failure.
   abbrev pub GoesOn : Config → Option (StoreOver l) → ℕ → Type 0
   GoesOn config (Some (Begun opening)) status = (status ≡ number.needs) × (opening.config ≡ config)
   GoesOn config (Some (File cache)) status = (status ≡ number.ok) × IsOpened config cache
   GoesOn config (Some (Memory cache)) status = ⊥
   GoesOn config None status = IsFailure status
 
-  -- a store of which nothing was opened yet, with these settings
+  -- a store with these settings over which nothing is open yet
   abbrev pub IsBegun : Config → StoreOver l → Type 0
   IsBegun config (Begun opening) = opening.config ≡ config
   IsBegun config store = ⊥
@@ -71,13 +71,13 @@ module _ {F : Type 0} {f : callers.Ghosts F} {d : disks.Ghosts (StagedDisk F f)}
   IsBeingOpened (Begun opening) = ⊤
   IsBeingOpened store = ⊥
 
-  -- the same of a store that stays behind its handle
+  -- the same of a store that stays in its handle
   abbrev pub GoesOnIn : StoreOver l → StoreOver l → ℕ → Type 0
   GoesOnIn (Begun opening) new status = GoesOn opening.config (Some new) status
   GoesOnIn old new status = (status ≡ number.already_open) × (new ≡ old)
 
-  -- An opening is begun, or one that was begun goes on. What is wrong with the settings is told first, and the handle stays closed. An open
-  -- handle stays.
+  -- An opening is begun, or one that was begun continues. An invalid setting is reported first, and the handle stays closed. An open handle stays as
+  -- it is.
   abbrev pub OpenFile : FileSettings → Option (StoreOver l) → Option (StoreOver l) → ℕ → Type 0
   OpenFile settings None None status = IsFailure status × TellsFault (config_of settings) status
   OpenFile settings None (Some new) status = (fault_of (config_of settings) ≡ None) × GoesOn (config_of settings) (Some new) status
@@ -92,27 +92,28 @@ module _ {F : Type 0} {f : callers.Ghosts F} {d : disks.Ghosts (StagedDisk F f)}
   abbrev pub HasRead : OpeningOver l → Type 0
   HasRead opening = (log : FileLog d) × IsRead opening log
 
-  -- this one was read, and is unused
+  -- this log was read, and is unused
   abbrev pub IsNewLog : OpeningOver l → FileLog d → Type 0
   IsNewLog opening log = IsRead opening log × IsUnused l log
 
-  -- there is none
+  -- no log was read that is unused
   abbrev pub IsNotNew : OpeningOver l → Type 0
   IsNotNew opening = (log : FileLog d) → IsRead opening log → ¬ IsUnused l log
 
-  -- An opening with these settings goes on until its log is read: bytes are needed, or it is read, or the handle is closed and it is told why.
+  -- An opening with these settings continues until its log is read: bytes are needed, or it is read, or the handle is closed and the status is that
+  -- of the failure.
   abbrev pub ReadsOn : Config → Option (StoreOver l) → ℕ → Type 0
   ReadsOn config (Some (Begun opening)) status = (opening.config ≡ config) × ((status ≡ number.needs) ⊎ ((status ≡ number.ok) × HasRead opening))
   ReadsOn config (Some store) status = ⊥
   ReadsOn config None status = IsFailure status
 
-  -- the same of a store that stays behind its handle
+  -- the same of a store that stays in its handle
   abbrev pub ReadsOnIn : StoreOver l → StoreOver l → ℕ → Type 0
   ReadsOnIn (Begun opening) new status = ReadsOn opening.config (Some new) status
   ReadsOnIn old new status = (status ≡ number.already_open) × (new ≡ old)
 
-  -- The log of a file is begun, or an opening that was begun goes on, and no cache is opened. What is wrong with the settings is told first,
-  -- and the handle stays closed. An open handle stays.
+  -- The log of a file is begun, or an opening that was begun continues, and no cache is opened. An invalid setting is reported first, and the handle
+  -- stays closed. An open handle stays as it is.
   abbrev pub OpenLog : FileSettings → Option (StoreOver l) → Option (StoreOver l) → ℕ → Type 0
   OpenLog settings None None status = IsFailure status × TellsFault (config_of settings) status
   OpenLog settings None (Some new) status = (fault_of (config_of settings) ≡ None) × ReadsOn (config_of settings) (Some new) status
@@ -123,8 +124,8 @@ module _ {F : Type 0} {f : callers.Ghosts F} {d : disks.Ghosts (StagedDisk F f)}
 -- ---- which bytes of a file that is
 
 module _ {F : Type 0} {f : callers.Ghosts F} {d : disks.Ghosts (StagedDisk F f)} (l : Ghosts (FileLog d)) where
-  -- The log has all that the bytes describe. Openings of a cache may have been tried over it, the last one first, which were refused where bytes
-  -- of the file were needed, and may have added pages of the cache's own.
+  -- The log has everything that the bytes describe. Attempts to open a cache over it may have failed because bytes of the file were needed, the last
+  -- one first in the list, and may have added pages of the cache's own.
   abbrev pub IsTried : Config → List ℕ → List (FileLog d) → FileLog d → Type 0
   IsTried config bytes [] log = IsLogOf bytes (l.state log)
   IsTried config bytes (before ∷ earlier) log =
@@ -134,7 +135,7 @@ module _ {F : Type 0} {f : callers.Ghosts F} {d : disks.Ghosts (StagedDisk F f)}
     pub tried : List (FileLog d)
     pub is : IsTried config bytes tried log
 
-  -- The cache was opened, as `start` opens one, over a log of all that these bytes describe.
+  -- The cache was opened, as `start` opens one, over a log of everything that these bytes describe.
   pub record IsOpenedOver (config : Config) (bytes : List ℕ) (cache : Cache (FileLog d)) : Type 0 where
     pub log : FileLog d
     pub over : IsLogOver config bytes log
@@ -143,7 +144,7 @@ module _ {F : Type 0} {f : callers.Ghosts F} {d : disks.Ghosts (StagedDisk F f)}
     pub same : IsBut l Forgets first cache
 
 module _ {F : Type 0} {f : callers.Ghosts F} {d : disks.Ghosts (StagedDisk F f)} {l : Ghosts (FileLog d)} where
-  -- An opening at this step is of these bytes: a read of its disk is to give them, or its log has what they describe.
+  -- An opening at this step is over these bytes: a read of its disk returns them, or its log has what they describe.
   abbrev pub IsStepOver : Config → List ℕ → Option (StepOver l) → Type 0
   IsStepOver config bytes None = ⊥
   IsStepOver config bytes (Some (Unread disk)) = seen_of disk ≡ bytes
@@ -154,7 +155,7 @@ module _ {F : Type 0} {f : callers.Ghosts F} {d : disks.Ghosts (StagedDisk F f)}
   abbrev pub IsOpeningOver : List ℕ → OpeningOver l → Type 0
   IsOpeningOver bytes opening = IsStepOver opening.config bytes opening.step
 
-  -- What lies behind a handle was made of these bytes, with these settings: an opening, or a cache that was opened.
+  -- The store was made from these bytes, with these settings: an opening, or a cache that was opened.
   abbrev pub IsStoreOver : Config → List ℕ → StoreOver l → Type 0
   IsStoreOver config bytes (Memory cache) = ⊥
   IsStoreOver config bytes (File cache) = IsOpenedOver l config bytes cache

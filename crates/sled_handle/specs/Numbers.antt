@@ -61,7 +61,7 @@ corruption = 19
 abbrev pub needs : ℕ
 needs = 20
 
--- behind this stands the number of the reason, and behind that the number of the bug
+-- the number of a reason is added to the first, and that of a bug to the second
 abbrev pub unsupported : ℕ
 unsupported = 100
 

@@ -1,4 +1,4 @@
--- Opening a cache over a new log in memory behind a handle.
+-- Opening a cache over a new log in memory in a handle.
 use Rattle.std.specs.Prelude.{◌≡◌, ℕ, false, [], Option, None, Some}
 use Rattle.sled_base.specs.declared.types.Error.{Error}
 use Rattle.sled_base.specs.declared.types.Error.TheVariants.{Unsupported}
@@ -22,8 +22,7 @@ use Rattle.sled_handle.specs.declared.store.Store.TheVariants.{Memory}
 abbrev pub config_of : Settings → Config
 config_of settings = record { cache_capacity = settings.cache_capacity; idgen_persist_interval = settings.idgen_persist_interval; segment_size = settings.segment_size }
 
--- The cache is new, with these settings, in which nothing is wrong: its pages are those that every cache has, they are stable, and no
--- batch is open.
+-- The cache is new, with these settings, none of which is invalid: its pages are those that every cache has, they are durable, and no batch is open.
 pub record IsNew (config : Config) (cache : Cache MemLog) : Type 0 where
   pub faultless : fault_of config ≡ None
   pub settings : cache.config ≡ config
@@ -36,14 +35,14 @@ abbrev pub IsNewStore : {F : Type 0} {f : callers.Ghosts F} {d : disks.Ghosts (S
 IsNewStore settings (Memory cache) = IsNew (config_of settings) cache
 IsNewStore settings store = ⊥
 
--- What is wrong with the settings is told, and else what kept the cache from being opened over an empty log.
+-- An invalid setting is reported, and otherwise what kept the cache from being opened over an empty log.
 pub record TellsWhy (settings : Settings) (status : ℕ) : Type 0 where
   pub error : Error
   pub why : RefusesOpening (config_of settings) [] error
   pub is : status ≡ number_of_error error
   pub settings_first : (fault : Why) → fault_of (config_of settings) ≡ Some fault → error ≡ Unsupported fault
 
--- A closed handle is opened, or stays closed. An open one stays.
+-- A closed handle is opened, or stays closed. An open one stays as it is.
 abbrev pub OpenHandle : {F : Type 0} {f : callers.Ghosts F} {d : disks.Ghosts (StagedDisk F f)} {l : Ghosts (FileLog d)} → Settings → Option (StoreOver l) → Option (StoreOver l) → ℕ → Type 0
 OpenHandle settings (Some old) new status = (status ≡ number.already_open) × (new ≡ Some old)
 OpenHandle settings None (Some new) status = (status ≡ number.ok) × IsNewStore settings new

@@ -1,4 +1,4 @@
--- How pairs cross: of each the lengths of the key and of the value, in four bytes each, the lowest first, and then the key and the value.
+-- Pairs as bytes: each is the length of its key and that of its value, in four bytes each, the lowest first, and then the key and the value.
 use Rattle.std.specs.Prelude.{◌≡◌, ◌<◌, ◌+◌, ◌^◌, ◌++◌, ℕ, false, List, length, map, take, drop}
 use Rattle.std.specs.Int.{w32, w64, to_le_bytes}
 use Rattle.std.specs.List.{AllByRecursion, flat_map}
@@ -13,11 +13,11 @@ pair_bytes pair = to_le_bytes w32 (length pair.0) ++ (to_le_bytes w32 (length pa
 abbrev pub IsShort : Bytes × Bytes → Type 0
 IsShort pair = (length pair.0 < 2 ^ 32) × (length pair.1 < 2 ^ 32)
 
--- the bytes are these pairs, one behind the other
+-- the bytes are these pairs, one after another
 abbrev pub EncodePairs : Bytes → List (Bytes × Bytes) → Type 0
 EncodePairs bytes pairs = AllByRecursion IsShort pairs × (bytes ≡ flat_map pair_bytes pairs)
 
--- Pairs that can be written: their lengths fit, and how many bytes they take is a number.
+-- Pairs that can be written: their lengths fit into four bytes, and together they take less than 2^64 bytes.
 abbrev pub AreWritable : List (Bytes × Bytes) → Type 0
 AreWritable pairs = AllByRecursion IsShort pairs × (length (flat_map pair_bytes pairs) < 2 ^ 64)
 
@@ -25,7 +25,7 @@ AreWritable pairs = AllByRecursion IsShort pairs × (length (flat_map pair_bytes
 abbrev pub AreAbove : Bytes → List (Bytes × Bytes) → Type 0
 AreAbove key pairs = AllByRecursion (λ later. IsBelow key later.0) pairs × IsAscending pairs
 
--- The bytes are pairs of which a leaf can be made, and this is the leaf, over all keys.
+-- The bytes are pairs of which a leaf can be made, and this is that leaf, over all keys.
 pub record EncodeLeaf (bytes : Bytes) (node : WholeNode) : Type 0 where
   pub pairs : List (Bytes × Bytes)
   pub encode : EncodePairs bytes pairs
@@ -44,10 +44,10 @@ item_bytes pair = pair_bytes (pair.0, value_of pair.1)
 abbrev pub node_bytes : WholeNode → Bytes
 node_bytes node = flat_map item_bytes node.pairs
 
--- What is written of a leaf is read as a leaf over all keys of the same pairs.
+-- What is written of a leaf can be read as a leaf over all keys with the same pairs.
 abbrev pub IsReadAgain : WholeNode → Type 0
 IsReadAgain node = node.is_index ≡ false → EncodeLeaf (node_bytes node) (leaf_of node.pairs)
 
--- the bytes stand at that place, and all else is as it was
+-- the bytes are at this place, and the others are unchanged
 abbrev pub IsPut : Bytes → ℕ → Bytes → Bytes → Type 0
 IsPut before start bytes after = after ≡ (take start before ++ bytes) ++ drop (start + length bytes) before

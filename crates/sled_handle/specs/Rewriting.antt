@@ -1,4 +1,4 @@
--- Rewriting a cache into the log of another file, and one in memory into a new log over which it goes on.
+-- Rewriting a cache into the log of another file, and one in memory into a new log on which it continues.
 use Rattle.std.specs.Prelude.{◌≡◌, ◌⊎◌, ℕ, true, false, [], Option, None, Some, Result, Ok, Err, IfOk, IfErr}
 use Rattle.std.specs.Global.{Box}
 use Rattle.std.specs.Option.{option_map}
@@ -34,7 +34,7 @@ use Rattle.sled_handle.specs.Openings.{config_of}
 use Rattle.sled_handle.specs.declared.settings.Settings.{Settings}
 use Rattle.sled_handle.specs.declared.store.Store.TheVariants.{Memory, File, Begun}
 
--- What `rewrite_into` answers of a cache, and leaves of it, where it is given this log.
+-- What `rewrite_into` returns for a cache that is given this log, and what it leaves of the cache.
 pub record IsAnswered {L M : Type 0} (g : Ghosts L) (h : Ghosts M) (old new : Cache L) (given : M) (answer : Result M (Error × M)) : Type 0 where
   pub stuck : old.fault ≡ true → (answer ≡ Err (Io Write, given)) × (new ≡ old)
   pub in_batch : old.fault ≡ false → old.batch ≡ true → (answer ≡ Err (Unsupported BatchOpen, given)) × (new ≡ old)
@@ -48,7 +48,7 @@ pub record IsAnswered {L M : Type 0} (g : Ghosts L) (h : Ghosts M) (old new : Ca
   pub full : g.tells → h.tells → old.fault ≡ false → IfErr answer (λ e. e.0 ≡ Unsupported LogFull → IsFullFor g h old given)
   pub unnamed : IfErr answer (λ e. HasNoName e.0)
 
--- what lies in a box, if there is one
+-- the contents of a box, if there is one
 abbrev pub stored : {S : Type 0} → Option (Box S) → Option S
 stored boxed = option_map (λ b. b.value) boxed
 
@@ -57,14 +57,14 @@ abbrev pub IsLeft : {L S : Type 0} → Cache L → Cache L → Option S → Opti
 IsLeft old new before after = (new ≡ old) × (after ≡ before)
 
 module _ {F : Type 0} {f : callers.Ghosts F} {d : disks.Ghosts (StagedDisk F f)} {l : Ghosts (FileLog d)} where
-  -- The log that was answered lies behind the handle, over which a cache can be opened with the same settings, as over all that the bytes of its
-  -- file describe; or the handle is closed, and the error is told.
+  -- The handle has the log that was returned, over which a cache can be opened with the same settings, as over everything that the bytes of its file
+  -- describe. Or the handle is closed, and the status is that of the error.
   abbrev pub TellsRewritten : Config → Result (FileLog d) (Error × FileLog d) → Option (StoreOver l) → ℕ → Type 0
   TellsRewritten config (Ok log) (Some (Begun opening)) status = (status ≡ number.ok) × (opening.config ≡ config) × IsRead opening log × (f.tells → IsOpeningOver (seen_of log.disk) opening)
   TellsRewritten config (Ok log) into status = ⊥
   TellsRewritten config (Err refused) into status = (status ≡ number_of_error refused.0) × (into ≡ None)
 
-  -- A cache is rewritten into the new log behind the other handle, which has none where it is closed, has a cache, or a log that isn't new.
+  -- A cache is rewritten into the new log of the other handle. That has none if it is closed, or has a cache, or a log that isn't new.
   abbrev pub Rewrites : {L : Type 0} → Ghosts L → Cache L → Cache L → Option (StoreOver l) → Option (StoreOver l) → ℕ → Type 0
   Rewrites g old new None into status = (status ≡ number.closed) × IsLeft old new None into
   Rewrites g old new (Some (Memory other)) into status = (status ≡ number.already_open) × IsLeft old new (Some (Memory other)) into
@@ -73,7 +73,7 @@ module _ {F : Type 0} {f : callers.Ghosts F} {d : disks.Ghosts (StagedDisk F f)}
       ((status ≡ number.closed) × IsNotNew opening × IsLeft old new (Some (Begun opening)) into)
       ⊎ ((given : FileLog d) × IsNewLog opening given × ((answer : Result (FileLog d) (Error × FileLog d)) × IsAnswered g l old new given answer × TellsRewritten opening.config answer into status))
 
--- What `start` answers, where it is given this log.
+-- What `start` returns for this log.
 pub record IsStarted (log : MemLog) (config : Config) (answer : Result (Cache MemLog) (Error × MemLog)) : Type 0 where
   pub opens : (held : Logged) → IsLogged (unplaced_state (mem.ghosts.state log)) held → Opens mem.ghosts log config held answer
   pub refused : IfErr answer (λ e. RefusesOpening config (now effect_of_entry (mem.ghosts.state log)) e.0)
@@ -81,12 +81,12 @@ pub record IsStarted (log : MemLog) (config : Config) (answer : Result (Cache Me
   pub unnamed : IfErr answer (λ e. HasNoName e.0)
   pub closed : IfOk answer (λ cache. cache.batch ≡ false)
 
--- The cache that was opened takes the place of the one before; or the error is told, and that stays.
+-- The cache that was opened replaces the one before. Or the status is that of the error, and the one before stays.
 abbrev pub TellsStarted : Result (Cache MemLog) (Error × MemLog) → Cache MemLog → Cache MemLog → ℕ → Type 0
 TellsStarted (Ok cache) old new status = (status ≡ number.ok) × (new ≡ cache)
 TellsStarted (Err refused) old new status = (status ≡ number_of_error refused.0) × (new ≡ old)
 
--- A cache is opened over the log that was answered; or the error is told.
+-- A cache is opened over the log that was returned, or the status is that of the error.
 abbrev pub GoesOnOver : Config → Result MemLog (Error × MemLog) → Cache MemLog → Cache MemLog → ℕ → Type 0
 GoesOnOver config (Ok log) old new status = (answer : Result (Cache MemLog) (Error × MemLog)) × IsStarted log config answer × TellsStarted answer old new status
 GoesOnOver config (Err refused) old new status = (status ≡ number_of_error refused.0) × (new ≡ old)
@@ -95,7 +95,7 @@ GoesOnOver config (Err refused) old new status = (status ≡ number_of_error ref
 abbrev pub IsEmpty : MemLog → Type 0
 IsEmpty log = state_of log ≡ record { stable = []; pending = []; usable = true }
 
--- The cache is rewritten into a new log, and one with these settings is opened over that in its place.
+-- The cache is rewritten into a new log, and replaced by one that is opened over that log with these settings.
 pub record IsCompacted (settings : Settings) (old new : Cache MemLog) (status : ℕ) : Type 0 where
   pub faultless : fault_of (config_of settings) ≡ None
   pub given : MemLog
@@ -105,7 +105,7 @@ pub record IsCompacted (settings : Settings) (old new : Cache MemLog) (status : 
   pub is : IsAnswered mem.ghosts mem.ghosts old left given answer
   pub goes_on : GoesOnOver (config_of settings) answer left new status
 
--- What is wrong with the settings is told first.
+-- An invalid setting is reported first.
 abbrev pub Compacts : Settings → Cache MemLog → Cache MemLog → ℕ → Type 0
 Compacts settings old new status =
     ((why : Why) × (fault_of (config_of settings) ≡ Some why) × (status ≡ number_of_error (Unsupported why)) × (new ≡ old)) ⊎ IsCompacted settings old new status

@@ -1,4 +1,4 @@
--- Which step of the cache a call makes, over any log, and what its status tells of it.
+-- Which step of the cache a call makes, over any log, and what its status says of it.
 use Rattle.std.specs.Prelude.{◌≡◌, ◌-◌, ◌^◌, ℕ, Bool, false, [], Result, IfOk, IfErr, OnOk, ◌⊎◌, min}
 use Rattle.sled_base.specs.Order.{Bytes}
 use Rattle.sled_base.specs.declared.types.Error.{Error}
@@ -25,7 +25,7 @@ use Rattle.sled_handle.specs.Pairs.{EncodeLeaf}
 use Rattle.sled_handle.specs.Statuses.{Tells, TellsAllocated, TellsDone, TellsSwapped, TellsRoot, TellsSizes, root_of}
 
 module _ {L : Type 0} (g : Ghosts L) (old new : Cache L) where
-  -- The call is one step with this answer, faults are reported only where they were, and no error owns a name.
+  -- The call is one step with this answer, a failure of the device or of an allocation is reported only if it happened, and no error owns a name.
   pub record Makes {T : Type 0} (call : Call) (said : Result T Error → Answer) (answer : Result T Error) : Type 0 where
     pub step : Steps g old call (said answer) new
     pub blame : IsBlamed g old new answer
@@ -41,7 +41,7 @@ module _ {L : Type 0} (g : Ghosts L) (old new : Cache L) where
   AppliesLink page link status before after =
       (answer : Swapped Link) × Makes (calls.Link (token page before) link) answers.Linked answer × TellsSwapped answer status before after
 
-  -- there is no memory for what the call is given, and nothing changes
+  -- there is no memory to copy what the call is given, and nothing changes
   abbrev pub LacksMemory : {X : Type 0} → ℕ → X → X → Type 0
   LacksMemory status before after = (status ≡ number.memory) × (after ≡ before) × (new ≡ old)
 
@@ -59,18 +59,18 @@ module _ {L : Type 0} (g : Ghosts L) (old new : Cache L) where
       ⊎ LacksMemory status before after
       ⊎ ((node : WholeNode) × EncodeLeaf bytes node × ((answer : Result (ℕ × Token) Error) × Makes (calls.Allocate node) answers.Allocated answer × TellsAllocated answer status before after))
 
-  -- it is put on this one, in place of what it held
+  -- the leaf that the bytes encode replaces what the page held
   abbrev pub ReplacesByLeaf : ℕ → Bytes → ℕ → ℕ → ℕ → Type 0
   ReplacesByLeaf page bytes status before after =
       EncodesNoLeaf bytes status before after
       ⊎ LacksMemory status before after
       ⊎ ((node : WholeNode) × EncodeLeaf bytes node × ((answer : Swapped WholeNode) × Makes (calls.Replace (token page before) node) answers.Replaced answer × TellsSwapped answer status before after))
 
-  -- an id is asked for
+  -- an id is generated
   abbrev pub GivesId : ℕ → ℕ → ℕ → Type 0
   GivesId status before after = (answer : Result ℕ Error) × Makes calls.GenerateId answers.Generated answer × Tells answer status before after
 
-  -- all is made stable, and it is told how many bytes that wrote
+  -- everything is made durable, and the number of bytes that this wrote is written
   abbrev pub MakesStable : ℕ → ℕ → ℕ → Type 0
   MakesStable status before after =
       (answer : Result ℕ Error) × Makes calls.Flush answers.Flushed answer × OnOk answer ((g.state new.log).pending ≡ []) × IfOk answer (λ bytes. bytes ≡ g.to_write old.log)
@@ -86,32 +86,32 @@ module _ {L : Type 0} (g : Ghosts L) (old new : Cache L) where
   SwapsRoot name page status before after =
       (answer : RootSwap) × Makes (calls.CasRoot name (root_of before) (root_of page)) answers.RootSwapped answer × TellsRoot answer status before after
 
-  -- The tree of a name is opened, as `open_tree` does it: by a look at the roots, and the steps that make one.
+  -- The tree of a name is opened, as `open_tree` does it: by reading the root, and the steps that make a tree if there is none.
   abbrev pub OpensTree : Bytes → ℕ → ℕ → ℕ → Type 0
   OpensTree name status before after =
       LacksMemory status before after
       ⊎ ((answer : Result ℕ Error) × IsTreeOpened g old name answer new × KeepsFault old new answer × IfErr answer HasNoName × Tells answer status before after)
 
-  -- the size of the log is told
+  -- the size of the log is written
   abbrev pub TellsSize : ℕ → ℕ → ℕ → Type 0
   TellsSize status before after =
       (new ≡ old) × ((answer : Result ℕ Error) × Steps g old calls.SizeOnDisk (answers.Sized answer) new × IfOk answer (λ size. size ≡ g.bytes old.log) × Tells answer status before after)
 
-  -- it is told how much of the log makes the pages
+  -- the number of bytes of the log that make the pages is written
   abbrev pub TellsLive : ℕ → ℕ → Type 0
   TellsLive status after =
       (new ≡ old) × (status ≡ number.ok) × (g.tells → old.fault ≡ false → after ≡ min (live_size (now effect_of_entry (g.state old.log))) (2 ^ 64 - 1))
 
-  -- the size of the log is told, and that of the pages
+  -- the size of the log is written, and that of the pages
   abbrev pub TellsAmplification : ℕ → ℕ × ℕ → ℕ × ℕ → Type 0
   TellsAmplification status before after =
       (answer : Result (ℕ × ℕ) Error) × Makes calls.SpaceAmplification answers.Amplified answer × IfOk answer (λ sizes. sizes.0 ≡ g.bytes old.log) × TellsSizes answer status before after
 
-  -- the page that is due is moved, and it is told whether there was one
+  -- the page that is due is moved, and it is written whether there was one
   abbrev pub MovesDue : ℕ → Bool → Bool → Type 0
   MovesDue status before after = (answer : Result Bool Error) × AttemptsMove g old answer new × Tells answer status before after
 
-  -- it is told whether the log had the cache's own pages
+  -- it is written whether the log had the cache's own pages
   abbrev pub TellsRecovered : ℕ → Bool → Type 0
   TellsRecovered status after = (new ≡ old) × (status ≡ number.ok) × (after ≡ old.recovered)
 
@@ -119,7 +119,7 @@ module _ {L : Type 0} (g : Ghosts L) (old new : Cache L) where
   abbrev pub Opens : ℕ → Type 0
   Opens status = (answer : Result (Unit {0}) Error) × OpensBatch g old answer new × TellsDone answer status
 
-  -- a batch is closed so, if one is open
+  -- a batch is closed in this way, if one is open
   abbrev pub Closes : (Cache L → Result (Unit {0}) Error → Cache L → Type 0) → ℕ → Type 0
   Closes closes status =
       ((old.batch ≡ false) × (status ≡ number.no_batch) × (new ≡ old)) ⊎ ((answer : Result (Unit {0}) Error) × closes old answer new × TellsDone answer status)

@@ -1,4 +1,4 @@
-//! What a program keeps of a store: a pointer to it, while it is open.
+//! The handle that a program keeps: a pointer to a store, while it is open.
 
 ghost use Rattle.std.specs.Prelude.{◌≡◌, Option, None, Some};
 ghost use Rattle.std.specs.Coded.{coded_option};
@@ -20,9 +20,9 @@ mod rewriting;
 
 pub use rewriting::rewrite_behind;
 
-/// A store behind a pointer, or none. The program keeps it in its own memory, where one that is closed is all zeros.
+/// A pointer to a store, or a closed handle. The program keeps it in its own memory, where a closed one is all zeros.
 ///
-/// Letting an open one go leaks its store. Contracts see the store.
+/// Dropping an open handle leaks its store. Contracts see the store.
 #[repr(C)]
 #[derive(Drop)]
 pub struct Handle {
@@ -79,7 +79,7 @@ impl Handle {
         }
     }
 
-    /// Takes the store out, and leaves the handle closed.
+    /// Returns the store of the handle, if it has one, and leaves the handle closed.
     pub fn take(&mut self, alloc: Global) -> Option<Box<Store>>
         ensures taken { option_map (λ boxed. boxed.value) result ≡ self.old.store }
         ensures closed { self.new.store ≡ None }
@@ -90,7 +90,7 @@ impl Handle {
         }
     }
 
-    /// Puts a store into the handle. What was there is dropped.
+    /// Puts a store into the handle. A store that was there is dropped.
     pub fn put(&mut self, alloc: Global, store: Box<Store>)
         ensures { self.new.store ≡ Some store.value }
     {

@@ -1,4 +1,4 @@
-//! What holds of the definitions that the contracts of the calls cite.
+//! Facts about the definitions that the contracts of the calls cite.
 
 ghost use Rattle.std.specs.Prelude.{ℕ, List, Option};
 ghost use Rattle.sled_disk.specs.Staged.{Fails, Forgets, HandsOut, TakesIn};
@@ -11,14 +11,16 @@ use crate::opening::FileLog;
 use sled_disk::CallersFile;
 use sled_pagecache::{Log, Node};
 
-/// The pairs of a leaf, as `get` writes them, are the pairs of a leaf that `allocate` and `replace` make of them. Nothing is done.
+/// Proves that `allocate` and `replace` read the pairs of a leaf, as `get` writes them, as a leaf over all keys with the same pairs. A call does
+/// nothing.
 pub fn pairs_are_read_again(node: &Node)
     ensures { IsReadAgain node.now }
 {
     let _data = node.data();
 }
 
-/// What is asked of the disk of an opening, and told it, leaves the opening over the same bytes of its file.
+/// Proves that an opening remains over the same bytes of its file when a task is handed out, when bytes are handed in, when they are dropped, and
+/// when a write or a sync fails. A call does nothing.
 pub fn an_opening_stays_over_its_bytes<F: CallersFile>()
     ensures handed_out { F.tells → (task : Option Task) (buffer bytes : List ℕ)
         (old new : OpeningOver ⟦<FileLog<F> as Log>⟧)

@@ -1,20 +1,20 @@
-//! What a program that isn't in Rattle keeps of a page cache, a handle, and what each of its calls does.
+//! Page caches for programs that aren't written in Rattle: the handle that such a program keeps, and what each of its calls does.
 //!
-//! The calls are total: each tests what it is given, and answers a number of `status`. None aborts. The library for C, over this one, exports them.
+//! The calls are total: each checks its arguments and returns a number of `status`. None aborts. The library for C, over this crate, exports them.
 //!
 //! In reading order:
 //!
-//! - `status`: the numbers that calls answer, and their texts
-//! - `settings`: what a program hands in to open a cache
-//! - `store`: what lies behind a handle
-//! - `opening`: opening a cache over a file, of which the program hands in the bytes
-//! - `handle`, `loose`: what a program keeps of a store, and a box as its pointer
+//! - `status`: the numbers that calls return, and their texts
+//! - `settings`: the settings with which a program opens a cache
+//! - `store`: the store to which a handle points
+//! - `opening`: opening a cache over a file whose bytes the program reads and hands in
+//! - `handle`, `loose`: what a program keeps of a store, and a box as a raw pointer
 //! - `calls`: what each call does with a cache, over any log
-//! - `file`: what a call over a file is answered
-//! - `through`: what each call does with what lies behind a handle, over any file of a caller
-//! - `output`: bytes that are written for the program
+//! - `file`: the status that a call over a file returns
+//! - `through`: what each call does with the store of a handle, over any file of a caller
+//! - `output`: writing results for the program
 //! - `pairs`: the pairs of a node as bytes
-//! - `laws`: that what is written of a leaf is read again
+//! - `laws`: that the pairs written of a leaf can be read back
 #![tactic(auto)]
 
 mod calls;

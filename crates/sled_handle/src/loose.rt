@@ -1,4 +1,4 @@
-//! A box as its pointer.
+//! A box as a raw pointer.
 
 ghost use Rattle.std.specs.Prelude.{◌≡◌};
 ghost use Rattle.std_alloc.specs.Box.Ownership.{box_owns};
@@ -6,7 +6,7 @@ ghost use Rattle.std_alloc.specs.Box.Ownership.{box_owns};
 use std::alloc::Allocator;
 use std::marker::Model;
 
-/// The pointer of a box and what frees its block, which own what the box did. Letting it go leaks the block.
+/// The pointer of a box, and the allocator that frees its block. They own what the box owned. Dropping them leaks the block.
 pub struct Loose<T, A: Allocator> {
     pub at: *mut T,
     pub alloc: A,
@@ -18,7 +18,7 @@ impl<T, A: Allocator> Model for Loose<T, A> {
 }
 
 impl<T: Drop, A: Allocator> Loose<T, A> {
-    /// Takes a box apart.
+    /// Turns a box into its pointer and its allocator.
     pub fn of(boxed: Box<T, A>) -> Loose<T, A>
         ensures { result.value ≡ boxed.value }
     {
@@ -26,7 +26,7 @@ impl<T: Drop, A: Allocator> Loose<T, A> {
         Loose { at, alloc }
     }
 
-    /// Makes the box again.
+    /// Turns them back into the box.
     pub fn into_box(self) -> Box<T, A>
         ensures { result.value ≡ self.value }
     {

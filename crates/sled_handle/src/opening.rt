@@ -1,4 +1,4 @@
-//! Opening a cache over a file, of which the program hands in the bytes.
+//! Opening a cache over a file whose bytes the program reads and hands in.
 
 ghost use Rattle.std.specs.Prelude.{◌≡◌, ℕ, List, [], None, length, true, IfOk, IfErr, IfSome, IfNone, OnOk};
 ghost use Rattle.sled_log.specs.LogState.{now};
@@ -23,16 +23,16 @@ mod served;
 /// A log in a file that the program reads and writes.
 pub type FileLog<F> = DiskLog<StagedDisk<F>>;
 
-/// A cache over one.
+/// A cache over such a log.
 pub type FileCache<F> = PageCache<FileLog<F>>;
 
 // So many bytes has the file of a log that holds nothing.
 const NEW_SIZE: u64 = 9;
 
-/// A cache that is being opened over a file: its log is read, what was read is made durable, and then the cache's own pages are read.
+/// A cache that is being opened over a file. Its log is read, what was read is made durable, and then the cache's own pages are read.
 ///
-/// Where bytes are needed the call is made again with these, and goes on. While the log is read one piece at a time is needed, and let
-/// go before the next.
+/// If bytes of the file are needed, the call is repeated with them, and continues. While the log is read, one piece at a time is needed, and it is
+/// dropped before the next one.
 #[derive(Drop)]
 pub struct Opening<F: CallersFile, L: Log = FileLog<F>> {
     config: Config,
@@ -55,7 +55,9 @@ enum Step<F: CallersFile, L: Log = FileLog<F>> {
 }
 
 impl<F: CallersFile> Opening<F> {
-    /// Begins with a file of so many bytes, unless something is wrong with the settings. One of none is given an empty log.
+    /// Begins to open a file of `len` bytes. An empty file gets an empty log.
+    ///
+    /// The error is a status: that of an invalid setting, which is checked first, or of a failure to write the empty log.
     pub fn new(alloc: Global, config: Config, file: F, len: u64) -> Result<Opening<F>, u32>
         requires len { F.tells → len ≡ length (held_after (F.first file) (F.done file)) }
         ensures config { IfOk result (λ opening. opening.config ≡ config) }
@@ -81,14 +83,15 @@ impl<F: CallersFile> Opening<F> {
         })
     }
 
-    /// The bytes that are needed to go on: their place, and how many.
+    /// Returns the place and the number of the bytes that are needed to continue, if any are.
     pub fn needs(&self) -> Option<(u64, usize)>
         ensures { result ≡ self.now.needs }
     {
         self.needs
     }
 
-    /// Goes on: the cache, or none where bytes are needed, or a status that tells why there will be none.
+    /// Continues the opening. Returns the cache, or `None` if bytes of the file are needed first. The error is the status of a failure, which ends
+    /// the opening.
     pub fn go_on(&mut self, alloc: Global) -> Result<Option<FileCache<F>>, u32>
         ensures opened { IfOk result (λ found. IfSome found (IsOpened self.old.config)) }
         ensures over { F.tells → (bytes : List ℕ) → IsOpeningOver bytes self.old
@@ -104,7 +107,8 @@ impl<F: CallersFile> Opening<F> {
         }
     }
 
-    /// Goes on until the log is read, and no further: whether it is, or bytes are needed; or a status that tells why it won't be.
+    /// Continues the opening until the log is read, and no further. Returns whether it is read: if not, bytes of the file are needed first. The error
+    /// is the status of a failure, which ends the opening.
     pub fn read_log(&mut self, alloc: Global) -> Result<bool, u32>
         ensures read { IfOk result (λ is_read. is_read ≡ true → HasRead self.new) }
         ensures over { F.tells → (bytes : List ℕ) → IsOpeningOver bytes self.old
@@ -119,7 +123,7 @@ impl<F: CallersFile> Opening<F> {
         Ok(true)
     }
 
-    /// Takes out the log, if it was read and holds nothing.
+    /// Removes the log from the opening and returns it, if it was read and holds nothing. Otherwise returns `None`, and nothing changes.
     pub fn take_new_log(&mut self) -> Option<FileLog<F>>
         ensures some { IfSome result (λ log. IsRead self.old log) }
         ensures new { IfSome result (IsUnused ⟦<FileLog<F> as Log>⟧) }
@@ -143,7 +147,7 @@ impl<F: CallersFile> Opening<F> {
         }
     }
 
-    /// Puts a log there, over which a cache can be opened.
+    /// Puts a log over which a cache can be opened into the opening, as if it had been read.
     pub fn put_log(&mut self, log: FileLog<F>)
         requires { MayBeOpened ⟦<FileLog<F> as Log>⟧ log }
         ensures read { IsRead self.new log }

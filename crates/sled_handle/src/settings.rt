@@ -1,4 +1,4 @@
-//! The settings that a program hands in.
+//! The settings with which a program opens a cache.
 
 ghost use Rattle.std.specs.Prelude.{◌≡◌, [], true};
 ghost use Rattle.sled_log.specs.MemLog.State.{state_of};
@@ -12,20 +12,20 @@ use std::alloc::Global;
 #[repr(C)]
 #[derive(Clone, Copy)]
 pub struct Settings {
-    /// The capacity of the cache, in bytes of messages.
+    /// The capacity of the cache: bytes of the messages whose pages stay in memory as nodes. At least 256.
     pub cache_capacity: u64,
-    /// How many ids one counter covers.
+    /// How many ids one counter covers. At least 1.
     pub idgen_persist_interval: u64,
-    /// The size of a segment, in bytes.
+    /// The size of a segment, in bytes. At least 1.
     pub segment_size: usize,
-    /// Payloads above so many bytes are kept as blobs.
+    /// Payloads of more than this many bytes are kept as blobs.
     pub blob_limit: usize,
-    /// A page is due to be moved for so many messages, and none where this is 0.
+    /// One page is due to be moved for each of this many messages, and none if this is 0.
     pub clean_every: u64,
 }
 
 impl Settings {
-    /// Those of the cache.
+    /// Returns the settings of the cache.
     pub fn config(self) -> Config
         ensures { result ≡ config_of self }
     {
@@ -36,7 +36,7 @@ impl Settings {
         }
     }
 
-    /// An empty log in memory.
+    /// Returns an empty log in memory.
     pub fn log(self, alloc: Global) -> MemLog
         ensures { state_of result ≡ record { stable = []; pending = []; usable = true } }
     {
@@ -48,16 +48,16 @@ impl Settings {
 #[repr(C)]
 #[derive(Clone, Copy)]
 pub struct FileSettings {
-    /// The capacity of the cache, in bytes of messages.
+    /// The capacity of the cache: bytes of the messages whose pages stay in memory as nodes. At least 256.
     pub cache_capacity: u64,
-    /// How many ids one counter covers.
+    /// How many ids one counter covers. At least 1.
     pub idgen_persist_interval: u64,
-    /// At so many bytes that are pending they are written.
+    /// Once this many bytes are pending, they are written. At least 1.
     pub segment_size: usize,
 }
 
 impl FileSettings {
-    /// Those of the cache.
+    /// Returns the settings of the cache.
     pub fn config(self) -> Config
         ensures { result ≡ file.config_of self }
     {

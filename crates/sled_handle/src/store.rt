@@ -1,4 +1,4 @@
-//! What lies behind a handle.
+//! The store to which a handle points.
 
 ghost use Rattle.std.specs.Prelude.{◌≡◌, None, IsOk};
 ghost use Rattle.sled_disk.specs.Staged.{Fails, Forgets, HandsOut, TakesIn};
@@ -11,22 +11,23 @@ use sled_disk::{CallersFile, Task, UnseenFile};
 use sled_pagecache::{Log, MemLog, PageCache};
 use std::alloc::AllocError;
 
-/// An open cache, over one of the logs that programs may choose, or a file of which one is being opened.
+/// An open cache, over one of the logs that a program may choose, or a file over which a cache is being opened.
 #[derive(Drop)]
 pub enum Store<F: CallersFile = UnseenFile, L: Log = FileLog<F>> {
-    /// Over a log in memory.
+    /// A cache over a log in memory.
     Memory(PageCache<MemLog>),
-    /// Over a log in a file, which the program reads and writes.
+    /// A cache over a log in a file, which the program reads and writes.
     File(PageCache<L>),
-    /// A file of which a part was read, and no cache yet.
+    /// A file over which a cache is being opened: there is no cache yet.
     Begun(Opening<F, L>),
 }
 
-/// What is asked of the disk of the file, and told it. In memory there is none: nothing waits, and nothing changes.
+/// The disk of the store's file: what it needs, and what it is given. A store in memory has none: it has no task and needs nothing, and these calls
+/// change nothing.
 impl<F: CallersFile> Store<F> {
     ghost use Rattle.sled_handle.specs.Files.{AreIn, StoreIsBut, disk_in, has_failed, needed_in};
 
-    /// Whether a write or a sync of the file failed.
+    /// Returns whether a write or a sync of the file failed.
     pub fn has_failed(&self) -> bool
         ensures { result ≡ has_failed (disk_in self.now) }
     {
@@ -37,7 +38,7 @@ impl<F: CallersFile> Store<F> {
         }
     }
 
-    /// The bytes of the file that are needed: their place, and how many.
+    /// Returns the place and the number of the bytes of the file that are needed, if any are.
     pub fn needs(&self) -> Option<(u64, usize)>
         ensures { result ≡ needed_in self.now }
     {
@@ -48,7 +49,7 @@ impl<F: CallersFile> Store<F> {
         }
     }
 
-    /// What the program does next to the file.
+    /// Returns the next task that the program has to do on the file, if there is one, and writes the bytes of a write to the front of the buffer.
     pub fn next_task(&mut self, into: &mut [u8]) -> Option<Task>
         ensures next { StoreIsBut (HandsOut result into.new) self.old self.new }
         ensures memory { (cache : Cache MemLog) → self.old ≡ Memory cache
@@ -61,7 +62,7 @@ impl<F: CallersFile> Store<F> {
         }
     }
 
-    /// Hands in bytes of the file, from a place on, or lacks memory for them.
+    /// Hands in bytes of the file, from a place on. `AllocError`: there is no memory for them, and nothing changed.
     pub fn hand_in(&mut self, at: u64, bytes: &[u8]) -> Result<(), AllocError>
         requires word { F.tells → AreIn at bytes.now (disk_in self.old) }
         ensures taken { StoreIsBut (TakesIn at bytes.now) self.old self.new }
@@ -74,7 +75,7 @@ impl<F: CallersFile> Store<F> {
         }
     }
 
-    /// Lets go of what was handed in.
+    /// Drops the bytes that were handed in, and what the disk needed.
     pub fn forget(&mut self)
         ensures { StoreIsBut Forgets self.old self.new }
     {
@@ -85,7 +86,7 @@ impl<F: CallersFile> Store<F> {
         }
     }
 
-    /// A write or a sync of the file failed.
+    /// Records that a write or a sync of the file failed.
     pub fn fail(&mut self)
         ensures { StoreIsBut Fails self.old self.new }
     {

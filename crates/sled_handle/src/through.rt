@@ -1,11 +1,11 @@
-//! What each call does with the store behind a handle, over any file of a caller.
+//! What each call does with the store of a handle, over any file of a caller.
 //!
-//! Each answers a status, and `status` says what each of these leaves: CLOSED where a file is being opened and there is no cache yet, WRITE where
-//! a write or a sync of the file failed, NEEDS where bytes of the file are needed first, and NOT_OVER_FILE of a call that isn't made over one.
+//! Each returns a status, and `status` says what each of these leaves: `CLOSED` if a file is being opened, so that there is no cache yet; `WRITE` if
+//! a write or a sync of the file failed; `NEEDS` if bytes of the file are needed first; and `NOT_OVER_FILE` if the call isn't available over a file.
 //!
 //! - `opening`: opening a cache over a file, or its log alone
 //! - `pages`, `roots`, `batches`, `log`, `maps`: as in `calls`
-//! - `device`: what is asked of the disk of a file, and told it
+//! - `device`: what the disk of a file needs, and what it is given
 //! - `rewriting`: rewriting a cache into another log
 
 // Makes a call on the cache of a store, over whichever log that is. One of which a file is being opened has no cache yet.

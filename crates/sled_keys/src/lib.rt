@@ -1,14 +1,14 @@
-//! A script of keys and values over ordered maps: lines in, reply lines out.
+//! A script of keys and values over ordered maps: it reads lines, and writes a reply line for each.
 //!
 //! In reading order:
 //!
-//! - `program`: the program that runs it: its words, its streams and its status
+//! - `program`: the program that runs the script: its arguments, its streams and its status
 //! - `script`: lines that ask for calls of maps, and the replies to them
-//! - `words`, `spelling`: byte strings that words of a line spell, and the words that spell them
+//! - `words`, `spelling`: the byte strings that the words of a line encode, and encoding byte strings as words
 //! - `replies`: replies that are written piece by piece
 //!
-//! Each function is proved safe, and to end. That a byte string is written as its word, and read of that word and of no other, is in the
-//! clauses of `bytes_of` and `gather_word`; which call a line asks for, and what it is replied to, is shown by tests.
+//! Each function is proved to be safe and to end. The clauses of `gather_word` and `bytes_of` say that a byte string is written as its word, and is
+//! read from that word and no other. Which call a line asks for, and what the reply to it is, is shown by tests.
 #![tactic(auto)]
 
 pub mod program;

@@ -1,34 +1,26 @@
-//! The program: its words, its streams and its status.
+//! The program: its arguments, its streams and its status.
 
 mod opened;
 
 use crate::script::RunError;
 use opened::serve_file;
 pub use opened::{serve_disk, serve_memory};
+pub use sled_lines::NoWords;
 use sled_tree::Error;
 use std::alloc::AllocGlobal;
 use std::fs::{File, Files};
 use std::io::{Read, Write};
 
-/// The script ended with its input.
+/// The status if the script ended with its input.
 const DONE: u8 = 0;
 
-/// An opening, a stream or the memory failed.
+/// The status if an opening, a stream or an allocation failed.
 const FAILED: u8 = 1;
 
-/// The words were no command.
+/// The status if the arguments are no command.
 const WRONG_WORDS: u8 = 2;
 
 const USAGE: &str = "usage: dilluvas FILE | :memory:\n";
-
-/// Why there are no words.
-#[derive(Clone, Copy, Debug, PartialEq, Eq)]
-pub enum NoWords {
-    /// Those of the system are no text.
-    NoText,
-    /// An allocation failed for them.
-    Memory,
-}
 
 /// Why a job failed.
 #[derive(Debug, Drop, thiserror::Error)]
@@ -39,11 +31,11 @@ pub enum Fault {
     Run(RunError),
 }
 
-/// Runs the program, and answers its status: 0 where the script ended, 1 where an opening, a stream or the memory failed, and 2 where the
-/// words are wrong.
+/// Runs the program and returns its status: 0 if the script ended with its input, 1 if an opening, a stream or an allocation failed, and 2 if the
+/// arguments are wrong.
 ///
-/// `words` are those after the program's own path. What went wrong is reported to `faults` in one line. Where there are none, or they are
-/// wrong, nothing is opened, and no stream but `faults` is touched.
+/// `words` are the arguments after the program's own path. A failure is reported to `faults` in one line. If there are no arguments, or wrong ones,
+/// nothing is opened, and no stream except `faults` is touched.
 pub fn drive<H: Files<File = File> + AllocGlobal, R: Read, W: Write, F: Write>(
     rt: &H,
     words: Result<&[String], NoWords>,

@@ -1,4 +1,4 @@
-//! Replies that are written piece by piece.
+//! Writing replies piece by piece.
 
 ghost use Rattle.std.specs.Prelude.{◌≤◌, length};
 ghost use Rattle.sled_lines.specs.Settings.{piece_room};
@@ -10,7 +10,7 @@ use sled_lines::replies::{gather_error, gather_labelled};
 use sled_tree::{Error, TreeError, Why};
 use std::io::Write;
 
-/// The replies to lines: what was gathered of them, and the writer that takes it where the gathered text is whole or has no more room.
+/// The replies to lines: those that are gathered, and the writer that gets them when the piece is full or is flushed.
 #[derive(Drop)]
 pub struct Replies<'a, W: Write> {
     writer: &'a mut W,
@@ -18,7 +18,7 @@ pub struct Replies<'a, W: Write> {
 }
 
 impl<'a, W: Write> Replies<'a, W> {
-    /// No reply is gathered yet.
+    /// Returns a value with no gathered reply.
     pub fn new(writer: &'a mut W) -> Replies<'a, W> {
         Replies {
             writer,
@@ -26,26 +26,26 @@ impl<'a, W: Write> Replies<'a, W> {
         }
     }
 
-    /// A short text.
+    /// Appends a short text.
     pub fn text(&mut self, text: &[u8]) -> Result<(), Unwritten>
         requires { length text.now ≤ piece_room }
     {
         gather_text(self.writer, &mut self.piece, text)
     }
 
-    /// A number in decimal digits.
+    /// Appends a number in decimal digits.
     pub fn number(&mut self, number: u64) -> Result<(), Unwritten> {
         gather_number(self.writer, &mut self.piece, number)
     }
 
-    /// A line of a short label and a number.
+    /// Appends a line with a short label and a number.
     pub fn labelled(&mut self, label: &[u8], number: u64) -> Result<(), Unwritten>
         requires { length label.now ≤ 40 }
     {
         gather_labelled(self.writer, &mut self.piece, label, number)
     }
 
-    /// A line of a short label and the word that spells these bytes.
+    /// Appends a line with a short label and the word that encodes these bytes.
     pub fn value(&mut self, label: &[u8], bytes: &[u8]) -> Result<(), Unwritten>
         requires { length label.now ≤ 40 }
     {
@@ -54,12 +54,12 @@ impl<'a, W: Write> Replies<'a, W> {
         self.text(b"\n")
     }
 
-    /// The word that spells these bytes.
+    /// Appends the word that encodes these bytes.
     pub fn word(&mut self, bytes: &[u8]) -> Result<(), Unwritten> {
         gather_word(self.writer, &mut self.piece, bytes)
     }
 
-    /// A line of the error.
+    /// Appends the line of an error.
     pub fn error(&mut self, error: &TreeError) -> Result<(), Unwritten> {
         match error {
             TreeError::KeyTooLong => self.text(b"error key\n"),
@@ -80,12 +80,12 @@ impl<'a, W: Write> Replies<'a, W> {
         }
     }
 
-    /// Writes and flushes what was gathered, unless another line can be read without a wait.
+    /// Writes and flushes the gathered replies, unless another line can be read without blocking.
     pub fn flush_unless(&mut self, is_followed: bool) -> Result<(), Unwritten> {
         flush_unless(is_followed, self.writer, &mut self.piece)
     }
 
-    /// Writes and flushes what is left, if something is.
+    /// Writes and flushes the rest of the gathered replies, if there is any.
     pub fn finish(&mut self) -> Result<(), Unwritten> {
         write_rest(self.writer, &self.piece)
     }

@@ -17,10 +17,10 @@ use thiserror::Error;
 /// Why a run ended before its input did.
 #[derive(Clone, Copy, Debug, Error)]
 pub enum RunError {
-    /// The input was not read.
+    /// The input could not be read.
     #[error("error read")]
     Read,
-    /// A reply was not written.
+    /// A reply could not be written.
     #[error("error write")]
     Write,
     /// An allocation failed for a line or for its words.
@@ -51,11 +51,11 @@ impl From<Unwritten> for RunError {
 
 /// Makes the calls that the lines of the input ask for, and writes one reply line for each line.
 ///
-/// A line that asks for nothing, or is longer than 65,536 bytes, is answered by `error line` and changes nothing. A batch that is open at
-/// the end, an error too, is cancelled, without a reply. The writer is flushed behind each line that is not followed by another whole one
-/// in what the reader has buffered: so always before a read that may wait, and once for lines that were read together.
+/// A line that asks for nothing, or that is longer than 65,536 bytes, is answered by `error line` and changes nothing. A batch that is open at the
+/// end of the input, or at an error, is cancelled without a reply. The writer is flushed after each line that isn't followed by another whole line in
+/// the reader's buffer. So it is flushed before every read that may block, and once for lines that were read together.
 ///
-/// At an error a prefix of the lines was answered. At [`RunError::Read`] and [`RunError::Memory`] the replies to them were written, and at
+/// After an error a prefix of the lines was answered. After [`RunError::Read`] and [`RunError::Memory`] the replies to them were written, and after
 /// [`RunError::Write`] a prefix of these replies.
 pub fn run<L: Log, R: BufRead, W: Write>(
     alloc: Global,

@@ -1,4 +1,4 @@
-//! The words that spell byte strings, put behind texts that are gathered.
+//! Encoding byte strings as words, which are appended to gathered texts.
 
 ghost use Rattle.std.specs.Prelude.{◌≡◌, ◌≤◌, ◌+◌, ◌*◌, ◌++◌, [], flat_map, length};
 ghost use Rattle.sled_lines.specs.Output.{Gathers};
@@ -10,7 +10,7 @@ use sled_lines::output::{Unwritten, gather_text, make_room};
 use sled_lines::piece::{Piece, ROOM};
 use std::io::Write;
 
-/// Puts the word that spells these bytes behind the text that was gathered.
+/// Appends the word that encodes these bytes to the gathered text.
 pub fn gather_word<W: Write>(
     writer: &mut W,
     piece: &mut Piece,

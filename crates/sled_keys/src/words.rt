@@ -1,4 +1,4 @@
-//! The byte strings that words of a line spell.
+//! The byte strings that the words of a line encode.
 
 ghost use Rattle.std.specs.Prelude.{◌≡◌, ◌≢◌, ◌++◌, ◌<◌, ◌∷◌, ℕ, [], true, false, Some, flat_map, IfOk, IfSome, IfNone};
 ghost use Rattle.std.specs.Option.{option_map};
@@ -7,9 +7,10 @@ ghost use Rattle.sled_lines.specs.Words.{AreBytes, hex_digit};
 ghost use Rattle.sled_keys.specs.Words.{spelled_byte, spelled};
 ghost use Rattle.sled_keys.specs.Words as words;
 
+use sled_lines::words::two_words;
 use std::alloc::{AllocError, Global};
 
-/// Where the bytes of a line's words are put that aren't spelled as they are. It is used again for each line.
+/// Buffers for decoded words that differ from their bytes. They are reused for each line.
 #[derive(Drop)]
 pub struct Rooms {
     pub name: Vec<u8>,
@@ -19,7 +20,7 @@ pub struct Rooms {
 }
 
 impl Rooms {
-    /// Nothing is allocated.
+    /// Returns empty buffers. Nothing is allocated.
     pub fn new(alloc: Global) -> Rooms {
         Rooms {
             name: Vec::new(alloc),
@@ -30,7 +31,7 @@ impl Rooms {
     }
 }
 
-/// Whether the byte is printable, and neither a space nor a backslash: such a byte is spelled as it is.
+/// Returns whether the byte is printable, and neither a space nor a backslash: such a byte is encoded as itself.
 #[inline(always)]
 pub fn is_plain(byte: u8) -> bool
     ensures { result ≡ words.is_plain byte }
@@ -38,7 +39,7 @@ pub fn is_plain(byte: u8) -> bool
     b' ' < byte && byte < 127 && byte != b'\\'
 }
 
-/// Whether each of the bytes is spelled as it is. All are looked at, which takes several at once.
+/// Returns whether each of the bytes is encoded as itself. It checks all of them, so that several can be checked at once.
 pub fn are_plain(bytes: &[u8]) -> bool
     ensures { result ≡ true → flat_map spelled_byte bytes.now ≡ bytes.now }
 {
@@ -49,7 +50,24 @@ pub fn are_plain(bytes: &[u8]) -> bool
     all
 }
 
-/// The bytes that the word spells. Where they aren't the word itself, they are put into the room.
+/// Returns the name and the key that the two words encode, or `None` if they aren't two words, or if one of them encodes no bytes.
+pub fn named_key<'a>(
+    words: &'a [u8],
+    rooms: &'a mut Rooms,
+) -> Result<Option<(&'a [u8], &'a [u8])>, AllocError> {
+    let Some((name, key)) = two_words(Some(words)) else {
+        return Ok(None);
+    };
+    let Some(name) = bytes_of(name, &mut rooms.name)? else {
+        return Ok(None);
+    };
+    let Some(key) = bytes_of(key, &mut rooms.key)? else {
+        return Ok(None);
+    };
+    Ok(Some((name, key)))
+}
+
+/// Returns the bytes that the word encodes, or `None` if it encodes none. If they differ from the word itself, they are put into `room`.
 pub fn bytes_of<'a>(word: &'a [u8], room: &'a mut Vec<u8>) -> Result<Option<&'a [u8]>, AllocError>
     ensures some { IfOk result (λ found. IfSome found (λ bytes. word.now ≡ spelled bytes.now)) }
     ensures none { IfOk result

@@ -1,4 +1,4 @@
--- A text that is cut at the first place of a byte.
+-- A text that is split at the first place of a byte.
 use Rattle.std.specs.Prelude.{◌≡◌, ◌≢◌, ℕ, ◌∷◌, ◌++◌, length, slice_index, Option, None, Some}
 use Rattle.std.specs.List.{AllByRecursion}
 use Rattle.sled_base.specs.Order.{Bytes}
@@ -7,11 +7,11 @@ use Rattle.sled_base.specs.Order.{Bytes}
 abbrev pub HasNo : ℕ → Bytes → Type 0
 HasNo mark text = AllByRecursion (λ byte. byte ≡ mark → ⊥) text
 
--- the text is this front, and then the mark and the rest, where there is one
+-- the text is this front, followed by the mark and the rest, if there is a rest
 abbrev pub IsCutAt : ℕ → Bytes → Bytes → Option Bytes → Type 0
 IsCutAt mark text front None = HasNo mark front × (text ≡ front)
 IsCutAt mark text front (Some rest) = HasNo mark front × (text ≡ front ++ mark ∷ rest)
 
--- no plus sign stands in front, and no zero in front of more
+-- there is no leading plus sign, and no leading zero before other characters
 abbrev pub HasPlainFront : Bytes → Type 0
 HasPlainFront word = (slice_index word 0 ≢ 43) × (slice_index word 0 ≡ 48 → length word ≡ 1)

@@ -1,4 +1,4 @@
--- What is replied where a call is refused.
+-- The reply to a call that fails.
 use Rattle.std.specs.Prelude.{◌++◌, codes}
 use Rattle.std.specs.Fmt.{decimal}
 use Rattle.sled_base.specs.Errors.{number_of_why, number_of_bug}

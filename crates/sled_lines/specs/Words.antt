@@ -26,11 +26,11 @@ after_name (word ∷ words) = Some (join_with_byte 32 (word ∷ words))
 abbrev pub AreBytes : Bytes → Type 0
 AreBytes bytes = AllByRecursion (λ byte. byte < 256) bytes
 
--- no space stands in the word
+-- the word has no space
 abbrev pub HasNoSpace : Bytes → Type 0
 HasNoSpace word = AllByRecursion (λ byte. byte ≡ 32 → ⊥) word
 
--- the line is this word, and then a space and the rest, where there is one
+-- the line is this word, followed by a space and the rest, if there is a rest
 abbrev pub BeginsLine : Bytes → Bytes → Option Bytes → Type 0
 BeginsLine line word None = HasNoSpace word × (line ≡ word)
 BeginsLine line word (Some rest) = HasNoSpace word × (line ≡ word ++ 32 ∷ rest)

@@ -1,10 +1,10 @@
-//! Texts that are cut in two.
+//! Texts that are split in two.
 
 ghost use Rattle.std.specs.Prelude.{◌≡◌, ◌≢◌, ◌<◌, ◌≤◌, ℕ, length, slice_index};
 ghost use Rattle.std.specs.Option.{option_map};
 ghost use Rattle.sled_lines.specs.Cut.{IsCutAt};
 
-/// What stands before the first such byte, and what stands behind it, if the byte is there.
+/// Returns what is before the first byte `mark`, and what is after it, if the text has one.
 #[inline(always)]
 pub fn cut_at(text: &[u8], mark: u8) -> (&[u8], Option<&[u8]>)
     ensures { IsCutAt mark text.now result.0.now (option_map (λ rest. rest.now) result.1) }

@@ -1,4 +1,4 @@
-//! Lines of an input, one at a time.
+//! Reading an input line by line.
 
 ghost use Rattle.std.specs.Prelude.{◌≡◌, ◌⊎◌, ◌+◌, ◌≤◌, length, Bool, Ok, Err, IfOk, IfErr};
 ghost use Rattle.std.specs.Io.BufRead.{DropsThrough};
@@ -9,17 +9,17 @@ ghost use Rattle.sled_lines.specs.Settings.{longest_line};
 use crate::cuts::cut_at;
 use std::io::{BufRead, Error, ErrorKind};
 
-/// The greatest length of a line that is read, in bytes without its newline.
+/// The greatest length in bytes of a line that is read, without its newline.
 pub const MAX_LINE: usize = 65_536;
 
-/// What stood at the front of the input.
+/// What was at the front of the input.
 #[derive(Clone, Copy, PartialEq, Eq)]
 pub enum Line {
     /// Nothing: the input is at its end.
     End,
-    /// A line, which was kept. Where it is followed, the reader has another whole line buffered, and the next read does not wait.
+    /// A line, which was kept. If `is_followed`, the reader has another whole line buffered, and the next read doesn't block.
     Whole { is_followed: bool },
-    /// A line above [`MAX_LINE`] bytes, which was passed over.
+    /// A line of more than [`MAX_LINE`] bytes, which was skipped.
     TooLong,
 }
 
@@ -30,14 +30,14 @@ pub enum ReadError {
     Memory,
 }
 
-/// How many bytes the reader has buffered up to the end of its last whole line, as far as that is known, or else 0.
+/// How many bytes the reader has buffered up to the end of its last whole line, as far as that is known, and otherwise 0.
 ///
-/// It spares looking for the end of each line twice. It is a hint: contracts say nothing of it.
+/// It saves searching for the end of each line twice. It is a hint: contracts say nothing about it.
 #[derive(Clone, Copy)]
 pub struct Ahead(usize);
 
 impl Ahead {
-    /// Nothing is known of what is buffered.
+    /// Returns a value for a reader of which nothing is known.
     pub fn unknown() -> Ahead {
         Ahead(0)
     }
@@ -58,10 +58,10 @@ impl Ahead {
     }
 }
 
-/// How many of the last bytes are looked at for the end of a line.
+/// How many of the last bytes are searched for the end of a line.
 const WINDOW: usize = 256;
 
-/// How many bytes there are up to the last end of a line, or 0 where none is among the last [`WINDOW`] bytes.
+/// Returns how many bytes there are up to the last end of a line, or 0 if the last [`WINDOW`] bytes have none.
 fn last_end(bytes: &[u8]) -> usize {
     let start = bytes.len().saturating_sub(WINDOW);
     match bytes[start..].iter().rposition(|byte| *byte == b'\n') {
@@ -73,19 +73,19 @@ fn last_end(bytes: &[u8]) -> usize {
 /// What ended a part of a line.
 #[derive(Clone, Copy)]
 enum Ended {
-    /// The newline, which was taken too. Where the line is followed, the reader has another whole line buffered.
+    /// The newline, which was consumed too. If `is_followed`, the reader has another whole line buffered.
     Line { is_followed: bool },
     /// The end of the input: the part is empty.
     Input,
-    /// Nothing: the line goes on, as far as is known.
+    /// Nothing: the line continues, as far as is known.
     Part,
 }
 
-/// Reads the next line into `kept`, without its newline. Of a line that is too long at most [`MAX_LINE`] bytes and one are kept. What is known
-/// of the lines that the reader has buffered is taken from `ahead` and put there.
+/// Reads the next line into `kept`, without its newline. Of a line that is too long, at most `MAX_LINE + 1` bytes are kept. `ahead` is what is known
+/// of the lines that the reader has buffered, and is updated.
 ///
-/// At [`ReadError::Memory`] an allocation failed for bytes that the reader still has. At [`ReadError::Read`] the input was not
-/// read behind what was kept.
+/// [`ReadError::Memory`]: an allocation failed, and the reader still has the bytes that follow those in `kept`. [`ReadError::Read`]: the input could
+/// not be read past the bytes in `kept`, or past a part of a line that is too long.
 pub fn read_line<R: BufRead>(
     reader: &mut R,
     ahead: &mut Ahead,
@@ -115,7 +115,7 @@ pub fn read_line<R: BufRead>(
     Err(ReadError::Read)
 }
 
-/// Takes what the reader has buffered of a line, behind what was kept of it, and no more than says that it is too long.
+/// Consumes what the reader has buffered of a line, and appends it to `kept`, up to the first byte that makes the line too long.
 fn take_part<R: BufRead>(
     reader: &mut R,
     ahead: &mut Ahead,
@@ -153,7 +153,7 @@ fn take_part<R: BufRead>(
     }
 }
 
-/// What a read comes to that failed: nothing more was taken, where it was interrupted.
+/// Returns the outcome of a failed read: nothing more was consumed, if it was interrupted, and otherwise an error.
 fn unless_interrupted(error: &Error) -> Result<Ended, ReadError>
     ensures { result ≡ Ok Ended.Part ⊎ (result ≡ Err ReadError.Read) }
 {
@@ -163,7 +163,7 @@ fn unless_interrupted(error: &Error) -> Result<Ended, ReadError>
     Err(ReadError::Read)
 }
 
-/// Passes over the rest of a line that is too long.
+/// Skips the rest of a line that is too long.
 fn skip_line<R: BufRead>(reader: &mut R) -> Result<Line, ReadError>
     ensures ok { IfOk result (λ line. (line ≡ Line.TooLong)
         × DropsThrough (R.remaining reader.old) (R.remaining reader.new) 10) }

@@ -1,4 +1,4 @@
-//! Texts that are written piece by piece.
+//! Writing a text piece by piece.
 
 ghost use Rattle.std.specs.Prelude.{◌≡◌, ◌≢◌, ◌+◌, ◌≤◌, [], length, OnOk, OnErr};
 ghost use Rattle.std.specs.Fmt.{decimal};
@@ -10,11 +10,11 @@ ghost use Rattle.sled_lines.specs.Words.{hex, bytes_word};
 use crate::piece::{Piece, ROOM};
 use std::io::{ErrorKind, Write};
 
-/// The writer did not take all of a text.
+/// The writer did not accept, or did not flush, all of a text.
 #[derive(Clone, Copy, Debug)]
 pub struct Unwritten;
 
-/// Writes all of the bytes. At an error a prefix of them was written.
+/// Writes all of the bytes. If it fails, it has written a prefix of them.
 pub fn write_text<W: Write>(writer: &mut W, text: &[u8]) -> Result<(), Unwritten>
     ensures { Writes (W.contents writer.old) (W.contents writer.new) result text.now }
 {
@@ -36,7 +36,7 @@ pub fn write_text<W: Write>(writer: &mut W, text: &[u8]) -> Result<(), Unwritten
     Err(Unwritten)
 }
 
-/// Writes the text that was gathered, and lets go of it.
+/// Writes the gathered text, and clears the piece. If it fails, it has written a prefix of the text.
 pub fn write_out<W: Write>(writer: &mut W, piece: &mut Piece) -> Result<(), Unwritten>
     ensures gathers { Gathers (W.contents writer.old) (W.contents writer.new) piece.old piece.new
         result [] }
@@ -47,7 +47,7 @@ pub fn write_out<W: Write>(writer: &mut W, piece: &mut Piece) -> Result<(), Unwr
     Ok(())
 }
 
-/// Writes and flushes what is left of the text that was gathered, if something is.
+/// Writes and flushes the rest of the gathered text, if there is any.
 pub fn write_rest<W: Write>(writer: &mut W, piece: &Piece) -> Result<(), Unwritten>
     ensures writes { Writes (W.contents writer.old) (W.contents writer.new) result piece.now }
     ensures some { OnErr result (piece.now ≢ []) }
@@ -59,7 +59,7 @@ pub fn write_rest<W: Write>(writer: &mut W, piece: &Piece) -> Result<(), Unwritt
     flush(writer)
 }
 
-/// Flushes what was written.
+/// Flushes the writer.
 pub fn flush<W: Write>(writer: &mut W) -> Result<(), Unwritten>
     ensures { Keeps (W.contents writer.old) (W.contents writer.new) }
 {
@@ -69,7 +69,7 @@ pub fn flush<W: Write>(writer: &mut W) -> Result<(), Unwritten>
     }
 }
 
-/// Writes and flushes the replies, unless another line can be read without a wait.
+/// Writes and flushes the gathered replies, unless another line can be read without blocking.
 pub fn flush_unless<W: Write>(
     is_followed: bool,
     writer: &mut W,
@@ -85,7 +85,7 @@ pub fn flush_unless<W: Write>(
     flush(writer)
 }
 
-/// Makes room for so many bytes: where the piece lacks it, the text that was gathered is written.
+/// Makes room for `count` bytes: if the piece lacks it, the gathered text is written.
 pub fn make_room<W: Write>(writer: &mut W, piece: &mut Piece, count: usize) -> Result<(), Unwritten>
     requires { count ≤ piece_room }
     ensures gathers { Gathers (W.contents writer.old) (W.contents writer.new) piece.old piece.new
@@ -98,7 +98,7 @@ pub fn make_room<W: Write>(writer: &mut W, piece: &mut Piece, count: usize) -> R
     write_out(writer, piece)
 }
 
-/// Puts a short text behind the text that was gathered.
+/// Appends a short text to the gathered text.
 pub fn gather_text<W: Write>(
     writer: &mut W,
     piece: &mut Piece,
@@ -113,7 +113,7 @@ pub fn gather_text<W: Write>(
     Ok(())
 }
 
-/// Puts a number in decimal digits behind the text that was gathered.
+/// Appends a number in decimal digits to the gathered text.
 pub fn gather_number<W: Write>(
     writer: &mut W,
     piece: &mut Piece,
@@ -127,7 +127,7 @@ pub fn gather_number<W: Write>(
     Ok(())
 }
 
-/// Puts a byte string as its word behind the text that was gathered: in hexadecimal, or `-` where there are no bytes.
+/// Appends the word of a byte string to the gathered text: hexadecimal, or `-` if it is empty.
 pub fn gather_bytes_word<W: Write>(
     writer: &mut W,
     piece: &mut Piece,
@@ -142,7 +142,7 @@ pub fn gather_bytes_word<W: Write>(
     gather_hex(writer, piece, bytes)
 }
 
-/// Puts a byte string in hexadecimal behind the text that was gathered, as much at once as a piece has room for.
+/// Appends a byte string in hexadecimal to the gathered text, in parts for which a piece has room.
 fn gather_hex<W: Write>(writer: &mut W, piece: &mut Piece, bytes: &[u8]) -> Result<(), Unwritten>
     ensures { Gathers (W.contents writer.old) (W.contents writer.new) piece.old piece.new result
         (hex bytes.now) }

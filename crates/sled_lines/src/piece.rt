@@ -1,4 +1,4 @@
-//! A text that is gathered, and written in one call.
+//! A text that is gathered, and written by one call.
 
 ghost use Rattle.std.specs.Prelude.{◌≡◌, ◌↔◌, ◌+◌, ◌<◌, ◌≤◌, ◌∷◌, ◌++◌, [], length, IsTrue};
 ghost use Rattle.std.specs.Fmt.{decimal};
@@ -11,7 +11,7 @@ use std::marker::Model;
 /// How many bytes a piece has room for.
 pub const ROOM: usize = 8192;
 
-/// The text that is gathered, of at most [`ROOM`] bytes.
+/// A gathered text of at most [`ROOM`] bytes.
 ///
 /// Contracts see the list of its bytes.
 #[derive(Drop)]
@@ -32,7 +32,7 @@ impl Model for Piece {
 }
 
 impl Piece {
-    /// A piece with no text.
+    /// Returns a piece without text.
     pub fn new() -> Piece
         ensures { result ≡ [] }
     {
@@ -42,14 +42,14 @@ impl Piece {
         }
     }
 
-    /// Whether there is no text.
+    /// Returns whether there is no text.
     pub fn is_empty(&self) -> bool
         ensures { IsTrue result ↔ (self.now ≡ []) }
     {
         self.len == 0
     }
 
-    /// Whether so many more bytes have room.
+    /// Returns whether there is room for `count` more bytes.
     pub fn has_room(&self, count: usize) -> bool
         requires { count ≤ piece_room }
         ensures { IsTrue result → length self.now + count ≤ piece_room }
@@ -57,21 +57,21 @@ impl Piece {
         self.len <= ROOM - count
     }
 
-    /// Lets go of the text.
+    /// Clears the text.
     pub fn clear(&mut self)
         ensures { self.new ≡ [] }
     {
         self.len = 0;
     }
 
-    /// The text.
+    /// Returns the text.
     pub fn as_slice(&self) -> &[u8]
         ensures { result.now ≡ self.now }
     {
         &self.bytes[..self.len]
     }
 
-    /// Puts a byte behind the text, which has room for it.
+    /// Appends a byte. There must be room for it.
     pub fn push(&mut self, byte: u8)
         requires { length self.old < piece_room }
         ensures { self.new ≡ self.old ++ byte ∷ [] }
@@ -80,7 +80,7 @@ impl Piece {
         self.len += 1;
     }
 
-    /// Puts more text behind the text, which has room for it.
+    /// Appends a text. There must be room for it.
     pub fn put_text(&mut self, text: &[u8])
         requires { length self.old + length text.now ≤ piece_room }
         ensures { self.new ≡ self.old ++ text.now }
@@ -90,7 +90,7 @@ impl Piece {
         self.len = end;
     }
 
-    /// Puts a byte string in hexadecimal behind the text, which has room for it.
+    /// Appends a byte string in hexadecimal. There must be room for it.
     pub fn put_hex(&mut self, bytes: &[u8])
         requires { length self.old + length (hex bytes.now) ≤ piece_room }
         ensures { self.new ≡ self.old ++ hex bytes.now }
@@ -101,7 +101,7 @@ impl Piece {
         }
     }
 
-    /// Puts the word of a byte string of two parts behind the text, which has room for it.
+    /// Appends the word of a byte string that is given in two parts. There must be room for it.
     pub fn put_bytes_word(&mut self, front: &[u8], rest: &[u8])
         requires { length self.old + length (bytes_word (front.now ++ rest.now)) ≤ piece_room }
         ensures { self.new ≡ self.old ++ bytes_word (front.now ++ rest.now) }
@@ -114,7 +114,7 @@ impl Piece {
         self.put_hex(rest);
     }
 
-    /// Puts a number in decimal digits behind the text, which has room for them. Each call puts two.
+    /// Appends a number in decimal digits, at most two in each call. There must be room for them.
     pub fn put_number(&mut self, number: u64)
         requires { length self.old + length (decimal number) ≤ piece_room }
         ensures { self.new ≡ self.old ++ decimal number }
@@ -128,7 +128,7 @@ impl Piece {
         self.push(b'0' + (number % 10) as u8);
     }
 
-    /// The same of a number that may be too large for a `u64`.
+    /// Appends a number that may be too large for a `u64`, as `put_number` does.
     pub fn put_wide_number(&mut self, number: u128)
         requires { length self.old + length (decimal number) ≤ piece_room }
         ensures { self.new ≡ self.old ++ decimal number }
@@ -145,7 +145,7 @@ impl Piece {
 /// The hexadecimal digits of the numbers below 16.
 const HEX_DIGITS: &[u8; 16] = b"0123456789abcdef";
 
-/// The hexadecimal digit of a number below 16.
+/// Returns the hexadecimal digit of a number below 16.
 fn hex_digit(value: u8) -> u8
     requires { value < 16 }
     ensures { result ≡ words.hex_digit value }

@@ -1,4 +1,4 @@
-//! Replies of a number, and of an error.
+//! Replies that are a number or an error.
 
 ghost use Rattle.std.specs.Prelude.{◌≡◌, ◌+◌, ◌≤◌, [], ◌∷◌, ◌++◌, length};
 ghost use Rattle.std.specs.Fmt.{decimal};
@@ -11,7 +11,7 @@ use crate::piece::Piece;
 use sled_base::{Device, Error};
 use std::io::Write;
 
-/// Puts a label and a number into a piece, which has room for them.
+/// Appends a label and a number to a piece, which must have room for both.
 pub fn put_labelled(piece: &mut Piece, label: &[u8], number: u64)
     requires { length piece.old + length label.now + 20 ≤ piece_room }
     ensures { piece.new ≡ piece.old ++ (label.now ++ decimal number) }
@@ -20,7 +20,7 @@ pub fn put_labelled(piece: &mut Piece, label: &[u8], number: u64)
     piece.put_number(number);
 }
 
-/// Puts a label of at most 40 bytes and a number as a line behind what was gathered.
+/// Appends a line with a label of at most 40 bytes and a number to the gathered text.
 pub fn gather_labelled<W: Write>(
     writer: &mut W,
     piece: &mut Piece,
@@ -37,7 +37,7 @@ pub fn gather_labelled<W: Write>(
     Ok(())
 }
 
-/// Puts what is replied to a refused call as a line behind what was gathered.
+/// Appends a line with the reply to a call that failed with `error` to the gathered text.
 pub fn gather_error<W: Write>(
     writer: &mut W,
     piece: &mut Piece,

@@ -12,17 +12,17 @@ use crate::cuts::cut_at;
 use sled_base::IVec;
 use std::alloc::{AllocError, Global};
 
-/// A byte string of at most so many bytes lies in place, and needs no allocation.
+/// A byte string of at most this many bytes is stored inline, and needs no allocation.
 const SHORT: usize = 22;
 
-/// The word at the front of a line, and what follows the space behind it, if a space is there.
+/// Returns the first word of a line, and what follows the space after it, if there is a space.
 pub fn first_word(line: &[u8]) -> (&[u8], Option<&[u8]>)
     ensures { BeginsLine line.now result.0.now (option_map (λ rest. rest.now) result.1) }
 {
     cut_at(line, b' ')
 }
 
-/// The first word, and all that stands behind the space after it.
+/// Returns the first word, and everything after the space that follows it, or `None` if there is no space.
 pub fn two_words(arguments: Option<&[u8]>) -> Option<(&[u8], &[u8])>
     ensures some { IfSome result
         (λ words. AreTwo (option_map (λ rest. rest.now) arguments.entry) words.0.now words.1.now) }
@@ -33,7 +33,7 @@ pub fn two_words(arguments: Option<&[u8]>) -> Option<(&[u8], &[u8])>
     Some((first, rest?))
 }
 
-/// The number that the word encodes: decimal digits without a leading zero, at most `u64::MAX`.
+/// Returns the number that the word encodes, in decimal digits without a leading zero, at most `u64::MAX`, or `None` if it encodes none.
 pub fn number_of(word: &[u8]) -> Option<u64>
     ensures some { IfSome result (λ n. word.now ≡ decimal n) }
     ensures none { IfNone result ((n : ℕ) → n < 2 ^ 64 → word.now ≢ decimal n) }
@@ -48,7 +48,7 @@ pub fn number_of(word: &[u8]) -> Option<u64>
     Some(number)
 }
 
-/// The number with one more digit behind its own.
+/// Returns the number with one more digit at its end, or `None` if the byte is no digit, or if the result is above `u64::MAX`.
 fn with_digit(number: u64, digit: u8) -> Option<u64>
     ensures some { IfSome result (λ n. (digit_value digit < 10)
         × (n ≡ number * 10 + digit_value digit)) }
@@ -61,7 +61,7 @@ fn with_digit(number: u64, digit: u8) -> Option<u64>
     }
 }
 
-/// Whether no plus sign stands in front, and no zero in front of more.
+/// Returns whether the word has no leading plus sign, and no leading zero before other characters.
 fn has_plain_front(word: &[u8]) -> bool
     ensures { IsTrue result ↔ HasPlainFront word.now }
 {
@@ -71,7 +71,7 @@ fn has_plain_front(word: &[u8]) -> bool
     }
 }
 
-/// The value of a lower-case hexadecimal digit.
+/// Returns the value of a lower-case hexadecimal digit, or `None` if it is none.
 fn hex_value(digit: u8) -> Option<u8>
     ensures some { IfSome result (λ value. (value < 16) × (digit ≡ hex_digit value)) }
     ensures none { IfNone result ((value : ℕ) → value < 16 → digit ≢ hex_digit value) }
@@ -83,7 +83,7 @@ fn hex_value(digit: u8) -> Option<u8>
     }
 }
 
-/// The byte that two hexadecimal digits encode.
+/// Returns the byte that two lower-case hexadecimal digits encode, or `None` if one of them is no such digit.
 fn hex_byte(high: u8, low: u8) -> Option<u8>
     ensures some { IfSome result (λ byte. (high ≡ hex_digit (byte / 16))
         × (low ≡ hex_digit (byte % 16))) }
@@ -93,7 +93,7 @@ fn hex_byte(high: u8, low: u8) -> Option<u8>
     Some(hex_value(high)? * 16 + hex_value(low)?)
 }
 
-/// Decodes the bytes of which a word has two hexadecimal digits each, and answers whether it has.
+/// Decodes a word of two lower-case hexadecimal digits for each byte of `bytes`. Returns whether all of its bytes are such digits.
 fn decode(word: &[u8], bytes: &mut [u8]) -> bool
     requires { length word.now ≡ 2 * length bytes.old }
     ensures length { length bytes.new ≡ length bytes.old }
@@ -110,10 +110,11 @@ fn decode(word: &[u8], bytes: &mut [u8]) -> bool
     true
 }
 
-/// The bytes that the word encodes: lower-case hexadecimal, or `-` for none.
+/// Returns the bytes that the word encodes in lower-case hexadecimal, or as `-` if there are none. Returns `None` if it encodes none.
 ///
-/// It is put where it is called, as other functions are that read a line: what each of them answers is large, and would be cleared first
-/// and then copied.
+/// `AllocError`: an allocation failed. Byte strings of at most 22 bytes need none.
+///
+/// It is inlined, as are other functions that read a line: each returns a large value, which would otherwise be cleared first and then copied.
 #[inline(always)]
 pub fn bytes_of(alloc: Global, word: &[u8]) -> Result<Option<IVec>, AllocError>
     ensures some { IfOk result (λ found. IfSome found (λ bytes. word.now ≡ bytes_word bytes)) }

@@ -16,8 +16,8 @@ use Rattle.sled_base.specs.declared.types.Refusal.{Refusal}
 use Rattle.sled_base.specs.declared.types.Refusal.TheVariants as refusals
 use Rattle.sled_base.specs.declared.types.Why.TheVariants.{LogFull}
 
--- Whether a message of that kind may be appended for a page: a content where the page is there or is the next new one, one that
--- frees it where it is there, and a link where it has a content. Blobs are a log's own, and so are the other kinds.
+-- Whether a message of that kind may be appended for a page: one that puts a content if the page exists or is the next new one,
+-- `Free` if the page exists, and a link if it has a content. No other kind may be appended: blobs and the rest are the log's own.
 abbrev pub can_append : {E : Type 0} → (E → LogKind) → List (List E) → ℕ → MessageKind → Bool
 can_append effect pages pid kinds.Free = nat_lt pid (length pages)
 can_append effect pages pid kinds.Counter = nat_le pid (length pages)
@@ -26,7 +26,7 @@ can_append effect pages pid kinds.InlineNode = nat_le pid (length pages)
 can_append effect pages pid kinds.InlineLink = not (is_empty effect (slice_index_or pages pid []))
 can_append effect pages pid kind = false
 
--- The events of a call that a crash may find: a call that answers Memory, Full or ReadFault has none.
+-- The events of a call that a crash may find: none, if the call fails with an error other than WriteFault.
 abbrev pub begun_by : {T : Type 0} → Result T LogError → List (Event Message) → List (Event Message)
 begun_by (Ok _) events = events
 begun_by (Err WriteFault) events = events
@@ -35,7 +35,7 @@ begun_by (Err Full) events = []
 begun_by (Err ReadFault) events = []
 begun_by (Err Corruption) events = []
 
--- How often a log has read, and how often a read, and a write or sync, has failed. Each count stays at the greatest u64.
+-- How often a log was read, how often a read failed, and how often a write or sync failed. Each count stops at the greatest u64.
 pub record Counts : Type 0 where
   pub reads : ℕ
   pub failed_reads : ℕ
@@ -45,11 +45,11 @@ pub record Counts : Type 0 where
 abbrev pub one_more : ℕ → ℕ
 one_more n = if n == most_count then n else n + 1
 
--- the count grew, or stays where it counts as grown
+-- the count grew, or has reached the greatest u64
 abbrev pub HasGrown : ℕ → ℕ → Type 0
 HasGrown old new = (old < new) ⊎ (new ≡ most_count)
 
--- A fault is reported only where its count grew, and no count falls.
+-- A fault is reported only if its count grew, and no count decreases.
 pub record HasCause {T : Type 0} (old new : Counts) (result : Result T LogError) : Type 0 where
   pub failed_reads : old.failed_reads ≤ new.failed_reads
   pub write_faults : old.write_faults ≤ new.write_faults
@@ -65,12 +65,14 @@ is_write_fault (Err ReadFault) = false
 is_write_fault (Err WriteFault) = true
 is_write_fault (Err Corruption) = false
 
--- What a call does that, by its answer, is to add these events, and has begun these messages and marks. Whatever the device: a
--- write fault makes the log unusable, and else whether a batch is open is what the marks say that were begun; each fault has its
--- cause, and the log has read so often then.
+-- What a call does that adds these events if it returns Ok, and that begins these messages and marks.
 --
--- Where the device tells its bytes: at Ok the events were added, at another error than WriteFault none was, a crash at any moment
--- of it leaves what was pending and what was begun, up to a fair cut, and Corruption is never reported of what the log was given.
+-- Whatever the device does: a WriteFault makes the log unusable, and otherwise the marks that were begun determine whether a
+-- batch is open; each fault has its cause; and the log's count of reads is `count` afterwards.
+--
+-- If the device tells its bytes: at Ok the events were added, and at an error other than WriteFault none was. A crash at any
+-- moment of the call leaves what was durable, and a prefix, up to a fair cut, of what was pending and begun. Corruption is never
+-- returned.
 pub record Called {L T : Type 0} (tells : Type 0) (state : L → LogState Entry) (moment : L → ℕ) (left_since : L → ℕ → List Messages → Type 0) (counts : L → Counts) (old new : L) (count : ℕ) (events : T → List (Event Entry)) (begun : List (Event Message)) (result : Result T LogError) : Type 0 where
   pub usable : (state new).usable ≡ not (is_write_fault result)
   pub opened : is_write_fault result ≡ false → is_open (state new).pending ≡ open_after (is_open (state old).pending) (begun_by result begun)
@@ -81,7 +83,7 @@ pub record Called {L T : Type 0} (tells : Type 0) (state : L → LogState Entry)
   pub stop : tells → CrashesSinceLeave moment left_since old new (IsLeft effect_of (unplaced_state (state old)) (begun_by result begun))
   pub sound : tells → IsErrOf result Corruption → ⊥
 
--- the refusal that a failed call of a log is
+-- the refusal that a cache returns for an error of its log
 abbrev pub refusal_of : LogError → Refusal
 refusal_of Memory = refusals.OutOfMemory
 refusal_of Full = refusals.Unsupported LogFull
@@ -92,12 +94,12 @@ refusal_of Corruption = refusals.Corruption None
 -- ---- What each call of a log does.
 
 module _ {L : Type 0} (tells : Type 0) (state : L → LogState Entry) (moment : L → ℕ) (left_since : L → ℕ → List Messages → Type 0) (counts : L → Counts) where
-  -- one that adds a message of a page, and answers its place
+  -- one that adds a message of a page, and returns its place
   abbrev pub Appends : L → L → ℕ → Message → Result (ℤ × DiskPtr × ℕ) LogError → Type 0
   Appends old new pid message result =
       Called tells state moment left_since counts old new (counts old).reads (λ said. Change pid (placed_entry message said) ∷ []) (Change pid message ∷ []) result
 
-  -- one that adds nothing, and reads the log once or not at all
+  -- one that adds nothing, and counts as one read of the log
   abbrev pub ReadsOnce : {T : Type 0} → L → L → Result T LogError → Type 0
   ReadsOnce old new result = Called tells state moment left_since counts old new (one_more (counts old).reads) (λ _. []) [] result
 

@@ -19,18 +19,18 @@ is_linking kinds.Link = true
 is_linking kinds.Skip = false
 is_linking kinds.Corrupted = false
 
--- what a change does to its page, for each thing that a change may be said by
+-- what a change does to its page, for each type that represents a change
 module _ {E : Type 0} (effect : E → LogKind) where
-  -- whether a page has no content: there is no change of it, or it was freed
+  -- whether a page has no content: it was never changed, or it was freed
   abbrev pub is_empty : List E → Bool
   is_empty [] = true
   is_empty (said ∷ chain) = is_freeing (effect said)
 
-  -- the chain after a link, which a page without a content doesn't take
+  -- the chain after a link; a page without a content ignores it
   abbrev pub chain_with_link : List E → E → List E
   chain_with_link chain said = if is_empty chain then chain else chain ++ said ∷ []
 
-  -- The chains, by id, with a new one. An id that is their number makes a new page; one above it changes nothing.
+  -- The chains, by id, with a new one. If the id equals their number, this makes a new page; a greater id changes nothing.
   abbrev pub chains_with_new : List (List E) → ℕ → E → List (List E)
   chains_with_new chains id said = if id == length chains then chains ++ (said ∷ []) ∷ [] else slice_set chains id (said ∷ [])
 
@@ -49,7 +49,7 @@ module _ {E : Type 0} (effect : E → LogKind) where
   chains_from chains Seal = chains
   chains_from chains Cancel = chains
 
-  -- the chains after events, the first of them first
+  -- the chains after events, in order
   abbrev pub chains_after : List (List E) → List (Event E) → List (List E)
   chains_after chains [] = chains
   chains_after chains (event ∷ events) = chains_after (chains_from chains event) events
@@ -58,7 +58,7 @@ module _ {E : Type 0} (effect : E → LogKind) where
   is_end [] = true
   is_end (said ∷ chain) = false
 
-  -- whether these follow a change that does so: links follow a content, and nothing one that frees the page
+  -- whether these may follow a change with that effect: links follow a content, and nothing follows one that frees the page
   abbrev pub may_follow : LogKind → List E → Bool
   may_follow kinds.Free chain = is_end chain
   may_follow kinds.Replace chain = list_all (λ said. is_linking (effect said)) chain

@@ -8,8 +8,8 @@ use Rattle.sled_node.specs.Node.{WholeNode}
 use Rattle.sled_node.specs.declared.node.link.Link.{Link as NodeLink}
 use Rattle.sled_log.specs.Events.{Event, Change, Pin, Seal, Cancel}
 
--- What a page holds: nothing, the counter of generated ids, the named roots, or a node; or it is damaged, where its messages make
--- none of these.
+-- What a page holds: nothing, the counter of generated ids, the named roots, or a node. It is damaged if its messages make none
+-- of these.
 pub data Content : Type 0 where
   Free : Content
   Counter : (n : ℕ) → Content
@@ -17,12 +17,12 @@ pub data Content : Type 0 where
   Node : (node : WholeNode) → Content
   Damaged : Content
 
--- what a change does to a page: it puts a content there, or applies a link to its node
+-- what a change does to a page: it puts a content on it, or applies a link to its node
 pub data Update : Type 0 where
   Put : (content : Content) → Update
   Link : (link : NodeLink) → Update
 
--- a content after a link, which only a node takes
+-- a content after a link, which changes only a node
 abbrev pub after_link : NodeLink → Content → Content
 after_link link Free = Free
 after_link link (Counter n) = Counter n
@@ -30,7 +30,7 @@ after_link link (Roots roots) = Roots roots
 after_link link (Node node) = Node (applied link node)
 after_link link Damaged = Damaged
 
--- The contents after one change. An id that is their number makes a new page; one above it changes nothing.
+-- The contents after one change. If the id equals their number, this makes a new page; a greater id changes nothing.
 abbrev pub contents_with : List Content → ℕ → Update → List Content
 contents_with contents id (Put content) = if id == length contents then contents ++ content ∷ [] else slice_set contents id content
 contents_with contents id (Link link) = slice_set contents id (after_link link (slice_index_or contents id Free))
@@ -42,7 +42,7 @@ contents_from contents Pin = contents
 contents_from contents Seal = contents
 contents_from contents Cancel = contents
 
--- the contents after events, the first of them first
+-- the contents after events, in order
 abbrev pub contents_after : List Content → List (Event Update) → List Content
 contents_after contents [] = contents
 contents_after contents (event ∷ events) = contents_after (contents_from contents event) events
@@ -64,7 +64,7 @@ after_links content [] = content
 after_links content (Link link ∷ updates) = after_links (after_link link content) updates
 after_links content (Put other ∷ updates) = after_links content updates
 
--- the content that begins a chain, after the links behind it
+-- the content that begins a chain, after the links that follow it
 abbrev pub content_of : List Update → Content
 content_of [] = Free
 content_of (Put content ∷ updates) = after_links content updates

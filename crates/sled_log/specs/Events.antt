@@ -9,7 +9,7 @@ pub data Event (E : Type 0) : Type 0 where
   Cancel : Event E
 
 module _ {E F : Type 0} (see : E → F) where
-  -- the event, where each change is seen so
+  -- the event, with `see` applied to its change
   abbrev pub seen_event : Event E → Event F
   seen_event (Change id said) = Change id (see said)
   seen_event Pin = Pin
@@ -17,7 +17,7 @@ module _ {E F : Type 0} (see : E → F) where
   seen_event Cancel = Cancel
 
 module _ {E : Type 0} where
-  -- whether a batch is open after these events, where the first argument says whether one is before them
+  -- whether a batch is open after these events, if the first argument says whether one is open before them
   abbrev pub open_after : Bool → List (Event E) → Bool
   open_after was [] = was
   open_after was (Change id said ∷ events) = open_after was events
@@ -29,7 +29,7 @@ module _ {E : Type 0} where
   abbrev pub is_open : List (Event E) → Bool
   is_open events = open_after false events
 
-  -- whether a batch that is open before these events is cancelled by them: not where it is sealed or still open
+  -- whether these events cancel a batch that is open before them: not if they seal it or leave it open
   abbrev pub is_cancelled : List (Event E) → Bool
   is_cancelled [] = false
   is_cancelled (Change id said ∷ events) = is_cancelled events
@@ -37,8 +37,8 @@ module _ {E : Type 0} where
   is_cancelled (Seal ∷ events) = false
   is_cancelled (Cancel ∷ events) = true
 
-  -- A crash may keep the first `cut` of these events, a prefix that splits no batch: none is open there, but for one that is
-  -- cancelled behind it.
+  -- A crash may keep the first `cut` of these events, a prefix that splits no batch: no batch is open at the cut, except one that
+  -- is cancelled after it.
   pub record IsFair (events : List (Event E)) (cut : ℕ) : Type 0 where
     pub within : cut ≤ length events
     pub no_part : is_open (take cut events) ≡ true → is_cancelled (drop cut events) ≡ true

@@ -18,18 +18,18 @@ pub record Message : Type 0 where
 abbrev pub message : MessageKind → List ℕ → Message
 message kind payload = record { kind = kind; payload = payload }
 
--- where a message is kept, and what it takes there
+-- where a message is stored, and how much of the log it takes there
 pub record Place : Type 0 where
   pub lsn : ℤ
   pub pointer : DiskPtr
   pub log_size : ℕ
 
--- a message that a log keeps at a place
+-- a message that a log stores at a place
 pub record Entry : Type 0 where
   pub message : Message
   pub place : Place
 
--- a page as a log keeps it, and without its places
+-- a page as a log stores it, and without its places
 abbrev pub Chain : Type 0
 Chain = List Entry
 
@@ -49,11 +49,11 @@ effect_of message = log_kind_of message.kind
 abbrev pub effect_of_entry : Entry → LogKind
 effect_of_entry entry = effect_of entry.message
 
--- how much of a log a message takes up: a head, and its payload
+-- how much of a log a message takes: a head and its payload
 abbrev pub message_size : Message → ℕ
 message_size message = head_size + length message.payload
 
--- the kind under which a payload of a kind is kept as a blob, if it has one
+-- the kind under which a payload of a kind is stored as a blob, if there is one
 abbrev pub blob_kind : MessageKind → MessageKind
 blob_kind kinds.InlineMeta = kinds.BlobMeta
 blob_kind kinds.InlineNode = kinds.BlobNode
@@ -65,7 +65,7 @@ abbrev pub kind_at : DiskPtr → MessageKind → MessageKind
 kind_at (Inline place) kind = kind
 kind_at (Blob place pointer) kind = blob_kind kind
 
--- a message at the place that a call answers: its lsn, the pointer to it, and its log size
+-- a message at the place that a call returns: its LSN, the pointer to it, and its log size
 abbrev pub placed_entry : Message → ℤ × DiskPtr × ℕ → Entry
 placed_entry message said = record { message = message; place = record { lsn = said.0; pointer = said.1; log_size = said.2 } }
 

@@ -7,13 +7,13 @@ use Rattle.sled_log.specs.Messages.{Message, Chain, message}
 
 -- ---- which message is due
 
--- The messages of pages that were not named yet, each by its page and its place, and how many were appended since one was named
--- or since the log was opened.
+-- The messages that were not named yet, each by its page and its place, and how many messages were appended since one was named
+-- or the log was opened.
 pub record Moves : Type 0 where
   pub waiting : List (ℕ × ℕ)
   pub appended : ℕ
 
--- none is named, of these
+-- none of these was named
 abbrev pub fresh_moves : List (ℕ × ℕ) → Moves
 fresh_moves waiting = record { waiting = waiting; appended = 0 }
 
@@ -21,12 +21,13 @@ fresh_moves waiting = record { waiting = waiting; appended = 0 }
 abbrev pub moves_with : Moves → List (ℕ × ℕ) → Moves
 moves_with moves names = record { waiting = moves.waiting ++ names; appended = moves.appended + length names }
 
--- the first of them, if its page is one of so many
+-- the first of them, if its page is below that number of pages
 abbrev pub first_of : ℕ → List (ℕ × ℕ) → Option (ℕ × ℕ)
 first_of pages [] = None
 first_of pages (named ∷ others) = if nat_lt named.0 pages then Some named else None
 
--- The message that is due in a log of so many pages, where one is for so many that are appended: the first that wasn't named yet.
+-- The message that is due in a log of that many pages, if one is due for every `every` that are appended: the first that was not
+-- named yet. None is due if `every` is 0.
 abbrev pub due_among : ℕ → ℕ → Moves → Option (ℕ × ℕ)
 due_among pages every moves = if (every == 0) || nat_lt moves.appended every then None else first_of pages moves.waiting
 
@@ -37,17 +38,17 @@ pub record Named (named : ℕ × ℕ) (old new : Moves) : Type 0 where
 
 -- ---- the blob of a page
 
--- the pointer names that blob
+-- the pointer refers to that blob
 abbrev pub NamesBlob : ℤ → DiskPtr → Type 0
 NamesBlob blob (Inline place) = ⊥
 NamesBlob blob (Blob place named) = named ≡ blob
 
--- the chain is one message, which is kept as that blob
+-- the chain is one message, stored as that blob
 abbrev pub IsBlob : ℤ → Chain → Type 0
 IsBlob blob [] = ⊥
 IsBlob blob (entry ∷ chain) = (chain ≡ []) × NamesBlob blob entry.place.pointer
 
--- of these pages that one is kept as that blob
+-- the page with that id is stored as that blob
 abbrev pub HasBlob : List Chain → ℕ → ℤ → Type 0
 HasBlob chains pid blob = IsBlob blob (slice_index_or chains pid [])
 

@@ -20,7 +20,7 @@ events_of Cancel = events.Cancel ∷ []
 abbrev pub events_of_all : List LogCall → List (Event Message)
 events_of_all calls = flat_map events_of calls
 
--- whether the call may be made of a log with these pages, where a batch is open or not
+-- whether the call may be made on a log with these pages, if `batch` says whether a batch is open
 abbrev pub can_make : List Messages → Bool → LogCall → Bool
 can_make pages batch (Append kind pid payload) = can_append effect_of pages pid kind
 can_make pages batch MakeStable = not batch

@@ -1,12 +1,13 @@
-//! The log of the page cache: messages of pages, in order. A crash at any moment keeps a prefix of them that splits no batch.
+//! The log of the page cache: a sequence of page messages. A crash at any moment keeps a prefix of them that splits no batch,
+//! except a cancelled one.
 //!
 //! In reading order:
 //!
-//! - `log`: the log as a contract
-//! - `payload`: where a payload is that was read
-//! - `runs`: calls of a log in a row
-//! - `memory`: the log in memory
-//! - `laws`: what holds of the definitions that the contracts of a log cite
+//! - `log`: the contract of a log
+//! - `payload`: where `read_to` put a payload
+//! - `runs`: sequences of log calls
+//! - `memory`: a log in memory
+//! - `laws`: theorems about the definitions that the contract of a log cites
 #![tactic(auto)]
 
 pub mod laws;

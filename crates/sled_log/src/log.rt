@@ -1,13 +1,13 @@
-//! The log as a contract: messages of pages, in order. A crash at any moment keeps a prefix of them that splits no batch.
+//! The contract of a log: a sequence of page messages. A crash at any moment keeps a prefix of them that splits no batch, except
+//! a cancelled one.
 
-ghost use Rattle.std.specs.Prelude.{◌≡◌, ℕ, ℤ, ◌+◌, ◌≤◌, ◌<◌, List, [], ◌∷◌, true, false, length, slice_index_or, Option, Some, Ok, IfOk, IfErr, OnOk, IsErrOf};
+ghost use Rattle.std.specs.Prelude.{◌≡◌, ℕ, ℤ, ◌+◌, ◌≤◌, ◌<◌, List, [], true, false, length, slice_index_or, Option, Some, Ok, IfOk, IfErr, OnOk, IsErrOf};
 ghost use Rattle.std.specs.List.{All, AllByRecursion, Any, AllZip};
 ghost use Rattle.sled_log.specs.Events.{is_open};
 ghost use Rattle.sled_log.specs.Calls.{Counts, can_append, Appends, Pins, Seals, Cancels, AddsNothing, ReadsOnce};
 ghost use Rattle.sled_log.specs.Chains.{is_chain};
-ghost use Rattle.sled_log.specs.Events.{Change, Pin, Seal, Cancel};
 ghost use Rattle.sled_log.specs.Limits.{head_size, size_limit};
-ghost use Rattle.sled_log.specs.Messages.{Entry, Messages, message, message_size, placed_entry, effect_of, effect_of_entry};
+ghost use Rattle.sled_log.specs.Messages.{Entry, Messages, message, message_size, effect_of, effect_of_entry};
 ghost use Rattle.sled_log.specs.Moves.{HasBlob, NamesBlob, message_at};
 ghost use Rattle.sled_log.specs.Pages.{IsPageState, IsSized, IsAt, IsRead, IsReadAs};
 ghost use Rattle.sled_log.specs.Payloads.{payload_in};
@@ -27,13 +27,13 @@ use std::alloc::{AllocError, AllocFailed};
 pub enum LogError {
     /// An allocation failed.
     Memory,
-    /// The log has no room for the message.
+    /// The log has no room for the message, or for the marks of a batch.
     Full,
-    /// The device failed to read in this call.
+    /// A read of the device failed in this call.
     ReadFault,
-    /// The device failed to write, or to make durable what was written, in this call.
+    /// A write or a sync of the device failed in this call, or was not made, for example because an earlier one had failed.
     WriteFault,
-    /// The log holds what no cache wrote.
+    /// The log holds data that no cache wrote, or does not hold the place or the page that the call names.
     Corruption,
 }
 
@@ -53,7 +53,8 @@ impl<T: Drop> From<AllocFailed<T>> for LogError {
     }
 }
 
-/// What a cache answers where its log failed so.
+/// Converts the error of a log into the refusal that a cache returns for it: `OutOfMemory`, `Unsupported(Why::LogFull)`,
+/// `Io(Device::Read)`, `Io(Device::Write)`, or `Corruption(None)`.
 impl From<LogError> for Refusal {
     ghost from_gives = { λ error refusal. refusal ≡ refusal_of error };
 
@@ -76,52 +77,59 @@ impl From<LogError> for Error {
     }
 }
 
-/// A log of the messages of pages, which are pending until they are durable: the log calls that stable.
+/// A log of page messages. A message is pending until it is durable; the names of the calls say *stable* for durable.
 ///
-/// An error other than WriteFault adds nothing. Any call may make a prefix of what is pending durable that ends inside no
-/// batch. After a WriteFault no call is made, since each requires a usable log, and what was begun may be there or not. A crash
-/// at any moment, inside a call too, leaves a crash state: what is durable, and then a prefix of what is pending and begun that
-/// splits no batch, but for one that is cancelled.
+/// A call that fails with an error other than WriteFault adds nothing. After a WriteFault, what that call began to add may be in
+/// the log or not, and only the calls that take `&self` may still be made, since all others require a usable log. Any call may
+/// make durable a prefix of what is pending and of what the call adds; that prefix splits no batch, except a cancelled one.
 ///
-/// What is said of contents, of crash states and of Corruption holds where the device tells its bytes: where a read gives what
-/// was written there, and a crash leaves what was synced. A log over a file whose reads may give any bytes is a log too, of
-/// which the rest holds.
+/// A crash at any moment, even inside a call, leaves a *crash state*: what is durable, and a prefix of what is pending and of
+/// what the running call has begun to add. That prefix splits no batch, except a cancelled one.
+///
+/// The device *tells its bytes* if a read returns what was written there, and a crash keeps what was synced. What the contract
+/// says about contents, crash states and Corruption holds if the device tells its bytes. A log over a file whose reads may return
+/// any bytes is also a log; the rest of the contract holds for it.
 pub trait Log: Drop {
-    /// That the device tells its bytes.
+    /// The premise that the device tells its bytes.
     ghost tells: { Type 0 };
 
-    /// The chains that are durable, the events that are pending, and whether the log may be called.
+    /// The durable chains, the pending events, and whether the log may be called.
     ghost state: { Self → LogState Entry };
 
-    /// The moment, as a number that doesn't fall.
+    /// The current moment, a number that never decreases.
     ghost moment: { Self → ℕ };
 
-    /// The crash states: the pages that a crash at some moment from that one on might have left, during a call or between two.
+    /// The crash states since a moment: the pages that a crash at that moment or later, during a call or between two calls, might
+    /// have left.
     ghost left_since: { Self → ℕ → List Messages → Type 0 };
 
-    /// How often it was read, and how often the device has failed.
+    /// How often the log was read, and how often the device failed to read and to write.
     ghost counts: { Self → Counts };
 
-    /// How many bytes it has, how many of them are durable, and how many `make_stable` would write.
+    /// The size of the log in bytes, the offset up to which it is durable, and how many bytes `make_stable` would write.
     ghost bytes: { Self → ℕ };
 
     ghost stable_bytes: { Self → ℤ };
 
     ghost to_write: { Self → ℕ };
 
-    /// Whether it has no room for a message with a payload of so many bytes, and for the marks of a batch.
+    /// Whether the log has no room for a message whose payload has that many bytes, and whether it has none for the marks of a
+    /// batch.
     ghost is_full: { Self → ℕ → Type 0 };
 
     ghost is_full_for_batch: { Self → Type 0 };
 
-    /// The message that is due to be moved, by its page and its place, if one is.
+    /// The page and the place of the message that is due to be moved, if there is one.
     ghost due: { Self → Option (ℕ × ℕ) };
 
-    /// Adds a message of a page, and answers its place: its lsn, the pointer to it, and its log size.
+    /// Appends a message of page `pid`, and returns its place: its LSN, the pointer to it, and its log size, which is 17 bytes
+    /// more than the payload.
     ///
-    /// A content is put on a page that is there or is the next new one; a page is freed that is there; and a link is of a page
-    /// that has a content. The log sizes of one chain are together at most `i64::MAX`. Full: the log has no room for the
-    /// message. An error other than WriteFault leaves the log's contents unchanged.
+    /// `kind` is `Counter`, `InlineMeta` or `InlineNode`, which put a content on the page, or `Free`, or `InlineLink`. A content
+    /// may be put on a page that exists or on the next new one. A page may be freed if it exists, and a link may be added if it
+    /// has a content. The log sizes of one chain add up to at most `i64::MAX`.
+    ///
+    /// Full: the log has no room for the message. An error other than WriteFault leaves the log's contents unchanged.
     fn append(
         &mut self,
         kind: MessageKind,
@@ -139,8 +147,8 @@ pub trait Log: Drop {
         ensures sized { tells
             → OnOk result (AllByRecursion IsSized (now effect_of_entry (state self.new))) };
 
-    /// Reads a message of a page by its place, which is one of the page's chain: its kind, or the kind of its blob, and its
-    /// payload. It adds nothing, and takes up no room of the log.
+    /// Reads the message of page `pid` at a place of the page's current chain, and returns its kind, or the kind of its blob, and
+    /// its payload. It adds nothing, uses no room of the log, and never fails with Full.
     fn read(
         &mut self,
         pid: PageId,
@@ -157,10 +165,10 @@ pub trait Log: Drop {
         ensures room { (n : ℕ) → is_full self.new n → is_full self.old n }
         ensures not_full { IsErrOf result Full → ⊥ };
 
-    /// Reads a message as `read` does. A payload for which `space` has room may be put there, at its front, and takes no memory then.
+    /// Reads a message as `read` does, and may put the payload at the front of `space` if it fits there, which allocates nothing.
     ///
-    /// `Payload::bytes` gives it in either case. What else the space holds may be any bytes. A log that has no such call of its own reads
-    /// so by `read`.
+    /// `Payload::bytes` returns the payload in either case. The rest of `space` may hold any bytes afterwards. The default
+    /// implementation calls `read`.
     fn read_to(
         &mut self,
         pid: PageId,
@@ -184,7 +192,8 @@ pub trait Log: Drop {
         }
     }
 
-    /// Makes all that is pending durable, and answers how many bytes it wrote. It allocates nothing.
+    /// Makes everything pending durable, and returns how many bytes it wrote. No batch may be open. It allocates nothing, and
+    /// fails only with WriteFault.
     fn make_stable(&mut self) -> Result<usize, LogError>
         requires usable { (state self.old).usable ≡ true }
         requires closed { is_open (state self.old).pending ≡ false }
@@ -193,29 +202,31 @@ pub trait Log: Drop {
         ensures number { IfOk result (λ n. n ≡ to_write self.old) }
         ensures only { IfErr result (λ e. e ≡ WriteFault) };
 
-    /// Opens a batch, and keeps room for its closing mark. Full: the log has no room for the marks.
+    /// Opens a batch, and reserves room for its closing mark. Full: the log has no room for the marks. No other batch may be
+    /// open.
     fn pin(&mut self) -> Result<(), LogError>
         requires usable { (state self.old).usable ≡ true }
         requires closed { is_open (state self.old).pending ≡ false }
         ensures called { Pins tells state moment left_since counts self.old self.new result }
         ensures full { IsErrOf result Full → is_full_for_batch self.old };
 
-    /// Closes the batch: a crash leaves all of it or nothing. It allocates nothing.
+    /// Seals the open batch: a crash then keeps all of it or nothing. It allocates nothing, and fails only with WriteFault.
     fn seal(&mut self) -> Result<(), LogError>
         requires usable { (state self.old).usable ≡ true }
         requires opened { is_open (state self.old).pending ≡ true }
         ensures called { Seals tells state moment left_since counts self.old self.new result }
         ensures only { IfErr result (λ e. e ≡ WriteFault) };
 
-    /// Closes the batch: a crash may leave a part of it. It allocates nothing.
+    /// Cancels the open batch: a crash may then keep part of it. Nothing is rolled back. It allocates nothing, and fails only
+    /// with WriteFault.
     fn cancel(&mut self) -> Result<(), LogError>
         requires usable { (state self.old).usable ≡ true }
         requires opened { is_open (state self.old).pending ≡ true }
         ensures called { Cancels tells state moment left_since counts self.old self.new result }
         ensures only { IfErr result (λ e. e ≡ WriteFault) };
 
-    /// Names the message that is due to be moved, by its page and its place, if one is; from then on another one is due, or none.
-    /// It changes nothing else, and allocates nothing.
+    /// Returns the page and the place of the message that is due to be moved, if there is one. After that a different message is
+    /// due, or none; the contract leaves this to the implementation. It changes nothing else, and allocates nothing.
     fn to_move(&mut self) -> Option<(PageId, LogOffset)>
         requires usable { (state self.old).usable ≡ true }
         ensures named { result ≡ due self.old }
@@ -229,8 +240,8 @@ pub trait Log: Drop {
         ensures room { (n : ℕ) → is_full self.new n → is_full self.old n }
         ensures batch_room { is_full_for_batch self.new → is_full_for_batch self.old };
 
-    /// Adds the message of a page again, which is all its chain and is kept as that blob: the new one has the same payload and
-    /// names the same blob. Answers its place, as `append` does.
+    /// Appends the message of page `pid` again, and returns its new place, as `append` does. The message must be the page's whole
+    /// chain, and stored as the blob `blob`. The new message has the same payload and names the same blob.
     ///
     /// Full: the log has no room for the message. An error other than WriteFault leaves the log's contents unchanged.
     fn rewrite_blob_pointer(
@@ -251,7 +262,8 @@ pub trait Log: Drop {
         ensures sized { tells
             → OnOk result (AllByRecursion IsSized (now effect_of_entry (state self.new))) };
 
-    /// The pages, by id, with the places of their chains. It adds nothing, and takes up no room.
+    /// Returns all pages, by id, each with the places of its chain. It adds nothing, uses no room of the log, and never fails
+    /// with Full.
     fn recover(&mut self) -> Result<Vec<PageState>, LogError>
         requires usable { (state self.old).usable ≡ true }
         ensures called { AddsNothing tells state moment left_since counts self.old self.new result }
@@ -265,44 +277,45 @@ pub trait Log: Drop {
         ensures room { (n : ℕ) → is_full self.new n → is_full self.old n }
         ensures not_full { IsErrOf result Full → ⊥ };
 
-    /// Whether a batch is open.
+    /// Returns whether a batch is open.
     fn batch_open(&self) -> bool
         ensures { result ≡ is_open (state self.now).pending };
 
-    /// How far the log is durable.
+    /// Returns the offset up to which the log is durable.
     fn stable_offset(&self) -> Lsn
         ensures { result ≡ stable_bytes self.now };
 
-    /// How many bytes the log has.
+    /// Returns the size of the log in bytes. Each log says what it counts.
     fn size(&self) -> u64
         ensures { result ≡ bytes self.now };
 
-    /// How often it was read. Each count stays at `u64::MAX`.
+    /// Returns how often the log was read. This count and the next two stop at `u64::MAX`.
     fn reads(&self) -> u64
         ensures { result ≡ (counts self.now).reads };
 
-    /// How often the device failed to read.
+    /// Returns how often the device failed to read.
     fn failed_reads(&self) -> u64
         ensures { result ≡ (counts self.now).failed_reads };
 
-    /// How often the device failed to write, or to make durable what was written.
+    /// Returns how often the device failed to write, or to make durable what was written.
     fn write_faults(&self) -> u64
         ensures { result ≡ (counts self.now).write_faults };
 
-    /// The page of a message that is due is one that the log holds.
+    /// The log holds the page of a message that is due.
     ghost due_is_held: { (log : Self) (pid place : ℕ) → tells → (state log).usable ≡ true
         → due log ≡ Some (pid, place) → pid < length (now effect_of_entry (state log)) };
 
-    /// A crash at this moment may leave what is durable and no more.
+    /// A crash at the current moment may leave exactly what is durable.
     ghost keeps_stable: { (log : Self) → tells → (state log).usable ≡ true
         → left_since log (moment log) (unplaced_state (state log)).stable };
 
-    /// It leaves what is durable, and a prefix of what is pending that splits no batch.
+    /// A crash at the current moment leaves what is durable, and a prefix of what is pending that splits no batch, except a
+    /// cancelled one.
     ghost only_now: { (log : Self) (pages : List Messages) → tells → (state log).usable ≡ true
         → left_since log (moment log) pages
         → IsLeft effect_of (unplaced_state (state log)) [] pages };
 
-    /// What a crash since some moment might have left, it might have left since an earlier one.
+    /// The crash states since a moment are among those since any earlier moment.
     ghost since_earlier: { (log : Self) (t u : ℕ) (pages : List Messages) → tells → t ≤ u
         → left_since log u pages → left_since log t pages };
 }

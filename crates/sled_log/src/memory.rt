@@ -1,6 +1,6 @@
-//! The log in memory.
+//! A log in memory.
 
-ghost use Rattle.std.specs.Prelude.{⊤, ◌≡◌, ◌+◌, ◌≤◌, ◌<◌, ◌↔◌, pos, Some, [], ◌∷◌, ◌++◌, length, take, drop, map, true, false, IsTrue, IsOk, IfOk, IfErr, OnOk, OnErr, IsErrOf, vec_len, vec_capacity};
+ghost use Rattle.std.specs.Prelude.{◌≡◌, ◌+◌, ◌≤◌, ◌<◌, ◌↔◌, pos, Some, [], ◌∷◌, ◌++◌, length, take, drop, map, true, false, IsTrue, IsOk, IfOk, IfErr, OnOk, OnErr, IsErrOf, vec_len, vec_capacity};
 ghost use Rattle.std.specs.List.{AllByRecursion, list_any};
 ghost use Rattle.sled_log.specs.Events.{is_open, open_after, IsFair, Change};
 ghost use Rattle.sled_log.specs.Calls.{one_more};
@@ -12,7 +12,7 @@ ghost use Rattle.sled_log.specs.Limits.{size_limit};
 ghost use Rattle.sled_log.specs.Messages.{effect_of_entry, message_size, placed_entry, unplaced_events};
 ghost use Rattle.sled_log.specs.Moves.{fresh_moves, moves_with};
 ghost use Rattle.sled_log.specs.Pages.{IsSized};
-ghost use Rattle.sled_log.specs.LogState.{LogState, now, unplaced_state};
+ghost use Rattle.sled_log.specs.LogState.{now, unplaced_state};
 ghost use Rattle.sled_log.specs.Inside.Stored.{are_within, lies, blob_lies, size_of_stored, pages_after, bare_event, came_by, last_came};
 ghost use Rattle.sled_log.specs.MemLog.Stored.{kept_items, part, pointer_of};
 ghost use Rattle.sled_log.specs.declared.log.LogError.TheVariants.{Memory, Full};
@@ -41,8 +41,11 @@ use strides::Strides;
 
 const MAX_SIZE: u64 = i64::MAX as u64;
 
-/// A log in memory. Each item keeps when it came, which tells when it became durable too, so the crash states of each moment are
-/// known from what is stored.
+/// A log in memory. Its `size` is the sum of the log sizes of all messages, and its `stable_offset` that of the durable ones. It
+/// fails only with Memory and Full.
+///
+/// Each item stores the moment at which it was added, and the moment at which it became durable follows from these. So the crash
+/// states of every moment are known from what is stored.
 #[derive(Drop)]
 pub struct MemLog {
     alloc: Global,
@@ -91,10 +94,10 @@ impl MemLog {
     ghost use Rattle.sled_log.specs.MemLog.State.{kept_in, state_of, clock_of, might_have_left, counts_of, settings_of, size_of, stable_size_of, kept_size_of, kept_names_of, moves_of, CalledHere};
     ghost use Rattle.sled_log.specs.Inside.Memory.{MovesNothing, Remembers, mark_in, put_message};
 
-    /// An empty log. It allocates nothing.
+    /// Returns an empty log. It allocates nothing.
     ///
-    /// Payloads above `blob_limit` bytes are kept as blobs, and a message is due to be moved for every `clean_every` that are
-    /// appended: none where that is 0.
+    /// A payload of more than `blob_limit` bytes is stored as a blob. One message is due to be moved for every `clean_every`
+    /// messages that are appended; if `clean_every` is 0, none ever is.
     pub fn new(alloc: Global, blob_limit: usize, clean_every: u64) -> MemLog
         ensures state { state_of result ≡ record { stable = []; pending = []; usable = true } }
         ensures settings { settings_of result ≡ (blob_limit, clean_every) }
@@ -123,15 +126,15 @@ impl MemLog {
         }
     }
 
-    /// Whether a crash may keep `n` of the pending events.
+    /// Returns whether a crash now may keep exactly the first `n` pending events.
     pub fn is_fair(&self, n: usize) -> bool
         ensures { IsTrue result ↔ IsFair (state_of self.now).pending n }
     {
         is_fair_cut(&self.items[self.stable..], n)
     }
 
-    /// A crash now that keeps `n` of the pending events: the log that it leaves, which is new, has counted nothing and named
-    /// nothing.
+    /// Returns the log that a crash now leaves, if it keeps the first `n` pending events. This is a new log in which everything
+    /// is durable: its counts are 0, and none of its messages was named by `to_move`.
     pub fn stop(self, n: usize) -> MemLog
         requires { IsFair (state_of self).pending n }
         ensures left { might_have_left self (clock_of self)

@@ -1,21 +1,21 @@
-//! Where a payload is that was read.
+//! The payload of a message that was read: in the caller's space, or in a vector.
 
 ghost use Rattle.std.specs.Prelude.{◌≡◌, ◌≤◌, [], length, IfOk, IsOk};
 ghost use Rattle.sled_log.specs.Payloads.{payload_in};
 
 use std::alloc::{AllocError, Global};
 
-/// Where the payload of a message is that was read with a space for it.
+/// Where `Log::read_to` put the payload of a message.
 #[derive(Debug, Drop)]
 pub enum Payload {
-    /// At the front of the space: so many bytes of it.
+    /// At the front of the space: its first bytes, this many of them.
     Short(usize),
-    /// In memory of its own.
+    /// In a vector.
     Long(Vec<u8>),
 }
 
 impl Payload {
-    /// The payload, which was read with this space.
+    /// Returns the payload, given the space that it was read with.
     pub fn bytes<'a>(&'a self, space: &'a [u8]) -> &'a [u8]
         ensures { result.now ≡ payload_in space.now self.now }
     {
@@ -25,7 +25,7 @@ impl Payload {
         }
     }
 
-    /// The payload in memory of its own, which was read with no space. It allocates nothing.
+    /// Returns the payload of a read whose space was empty, as a vector. It allocates nothing.
     pub fn into_vec(self, alloc: Global) -> Vec<u8>
         ensures { result.items ≡ payload_in [] self }
     {
@@ -35,7 +35,8 @@ impl Payload {
         }
     }
 
-    /// Puts the bytes at the front of the space, or copies them where they are more. An error means that an allocation failed.
+    /// Copies the bytes to the front of `space` if they fit there, and otherwise into a new vector. AllocError: the allocation of
+    /// that vector failed.
     pub fn put(alloc: Global, bytes: &[u8], space: &mut [u8]) -> Result<Payload, AllocError>
         ensures put { IfOk result (λ payload. payload_in space.new payload ≡ bytes.now) }
         ensures short { length bytes.now ≤ length space.old → IsOk result }

@@ -1,4 +1,4 @@
-//! Calls of a log in a row.
+//! Sequences of log calls.
 
 ghost use Rattle.std.specs.Prelude.{◌≡◌, ℕ, ◌<◌, ◌++◌, true, false, not, IsTrue, List, [], length, take, OnOk, OnErr, IsErrOf};
 ghost use Rattle.sled_log.specs.Events.{is_open};
@@ -12,7 +12,7 @@ ghost use Rattle.sled_log.specs.LogState.{LogState, now, Adds, IsLeft, CrashesSi
 use crate::{Log, LogError};
 use sled_base::{MessageKind, PageId};
 
-/// A call that adds to a log, or makes it stable.
+/// A call that appends to a log, or makes it durable.
 #[derive(Debug, Drop)]
 pub enum LogCall {
     Append(MessageKind, PageId, Vec<u8>),
@@ -22,8 +22,9 @@ pub enum LogCall {
     Cancel,
 }
 
-/// What crashes leave of two parts of a call, the second from the state that the first left, is what they leave of the
-/// whole: what was durable, and a prefix of what was pending and of what both parts began, which splits no batch.
+/// Proves that the crash states of two consecutive parts of a call are crash states of the whole call. The second part starts
+/// from the state that the first one left. What a crash leaves is what was durable, and a prefix of what was pending and of what
+/// both parts began; it splits no batch, except a cancelled one.
 pub fn parts_make_the_whole<L: Log>()
     ensures { (old mid new : L) (before after : LogState Message)
         (first second : List (Event Message))
@@ -64,10 +65,11 @@ fn make_call<L: Log>(log: &mut L, call: &LogCall) -> Result<(), LogError>
     Ok(())
 }
 
-/// Makes the calls in order, up to the first that is refused, which adds nothing unless it met a write fault.
+/// Makes the calls in order, up to the first one that fails, and returns its error. The failed call adds nothing, unless its
+/// error is WriteFault.
 ///
-/// A crash at any moment of it leaves what was durable, and a prefix of what was pending and of what all
-/// calls add, which splits no batch.
+/// A crash at any moment of this leaves what was durable, and a prefix of what was pending and of what all the calls add. That
+/// prefix splits no batch, except a cancelled one.
 pub fn make_calls<L: Log>(log: &mut L, calls: &[LogCall]) -> Result<(), LogError>
     requires tells { L.tells }
     requires usable { (L.state log.old).usable ≡ true }

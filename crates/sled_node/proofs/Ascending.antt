@@ -33,6 +33,13 @@ module _ {V : Type 0} where
       let last = all_at_front (λ later. IsBelow x.0 later.0) xs j d h.0 (omega arith) in
       (all_more (λ later. IsBelow x.0 later.0) xs (suc j) d h.0 (omega arith) (below_trans x.0 (get_or xs j d).0 (get_or xs (suc j) d).0 last below), ascending_more xs j d h.1 (omega arith) below)
 
+  -- among ascending pairs each key is below every later one
+  pub ascending_at : (xs : List (Bytes × V)) (i j : ℕ) (d : Bytes × V) → IsAscending xs → i < j → j < length xs → IsBelow (get_or xs i d).0 (get_or xs j d).0
+  ascending_at [] i j d h lt within = absurd (omega arith)
+  ascending_at (x ∷ xs) i zero d h lt within = absurd (omega arith)
+  ascending_at (x ∷ xs) zero (suc j) d h lt within = all_at (λ later. IsBelow x.0 later.0) xs j d h.0 (omega arith)
+  ascending_at (x ∷ xs) (suc i) (suc j) d h lt within = ascending_at xs i j d h.1 (omega arith) (omega arith)
+
   -- among ascending pairs each key is below the next
   pub ascending_next : (xs : List (Bytes × V)) (j : ℕ) (d : Bytes × V) → IsAscending xs → suc j < length xs → IsBelow (get_or xs j d).0 (get_or xs (suc j) d).0
   ascending_next [] j d h lt = absurd (omega arith)

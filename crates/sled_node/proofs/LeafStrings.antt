@@ -1,19 +1,14 @@
 -- The pairs of a leaf, whose strings are all stored keys and then all values.
-use Rattle.std.proofs.Common.{◌≡◌, ◌≢◌, ℕ, suc, ◌+◌, ◌-◌, ◌/◌, ◌<◌, ◌≤◌, List, [], ◌∷◌, ◌++◌, Some, length, get_or, map, take, drop, refl, sym, ap, subst, ◌∙◌, append_assoc, arith}
+use Rattle.std.proofs.Common.{◌≡◌, ℕ, suc, ◌+◌, ◌-◌, ◌/◌, ◌<◌, ◌≤◌, List, [], ◌∷◌, ◌++◌, Some, length, get_or, map, take, drop, refl, sym, ap, subst, ◌∙◌, append_assoc, arith}
 use Rattle.std.proofs.lemmas.List.{length-append, length-map, length-take-le, take_at, drop_at, take-append-drop, drop_more, length-drop, length-take, take_all, map_more, get_or-drop, get_or-take, get_or_append_left, get_or-append-add, get_or-map}
 use Rattle.std.proofs.lemmas.Option.{get_or_from_slice_get, slice_get_read, slice_get_within}
 use Rattle.std.proofs.Math.Seq.{take-append-add, drop-append-add}
 use Rattle.std.specs.List.{flat_map, AllByRecursion, HoldsAt, slice_get}
 use Rattle.sled_base.specs.Payloads.Numbers.{written_u64}
 use Rattle.sled_base.specs.Payloads.ByteStrings.{written_bytes}
-use Rattle.std.specs.Prelude.{All, Result, Ok, Err, IfOk, IfErr, OnOk, OnErr, is_ok, Bool, true, false, IsTrue, ◌↔◌}
+use Rattle.std.specs.Prelude.{Result, Ok, Err, IfOk, IfErr, OnOk, OnErr, is_ok, Bool, true, false, IsTrue, ◌↔◌}
 use Rattle.std.specs.Bool.{Decides}
-use Rattle.std.specs.declared.cmp.Ordering.{Ordering}
-use Rattle.std.specs.declared.cmp.Ordering.TheVariants.{Less, Equal, Greater}
-use Rattle.std.specs.Ordering.{is_lt}
-use Rattle.sled_base.specs.Order.{Bytes, bytes_cmp, is_below, IsBelow, IsAtMost}
-use Rattle.sled_base.specs.OrderLaws.{equal_is_same, above_is_below, below_is_at_most, below_is_above, below_trans}
-use Rattle.sled_base.specs.Searches.{IsSorted, IsLastEqual, count_below}
+use Rattle.sled_base.specs.Order.{Bytes}
 use Rattle.sled_base.specs.Strings.{with_at, without_at}
 use Rattle.sled_node.specs.Payloads.Pairs.{keys_of, items_of}
 use Rattle.sled_node.specs.Pairs.{IsWithinLimit, IsAscending, HasPairs, StandsAt, IsGap, pairs_below, pairs_above, set_pair, del_pair}
@@ -23,7 +18,7 @@ use Rattle.sled_node.specs.Restoring.{restored}
 use Rattle.sled_node.proofs.Ascending.{all_at}
 use Rattle.sled_node.proofs.Edits.{all_append}
 use Rattle.sled_node.proofs.Restoring.{all_parts}
-use Rattle.sled_node.proofs.Places.{all_so, all_above, past, stands}
+use Rattle.sled_node.proofs.Places.{stands}
 
 abbrev Pairs : Type 0
 Pairs = List (Bytes × Bytes)
@@ -74,6 +69,10 @@ module _ (pairs : Pairs) (strings : List Bytes) (are : strings ≡ keys_of pairs
   pub key_there : (i : ℕ) (d : Bytes) (e : Bytes × Bytes) → i < length pairs → get_or strings i d ≡ (get_or pairs i e).0
   key_there i d e lt = ap (λ ss. get_or ss i d) are ∙ get_or_append_left (keys_of pairs) (items_of pairs) d i (omega (arith, lt, many_keys pairs)) ∙ get_or-map (λ pair. pair.0) pairs i e d lt
 
+  -- the key that was found at a place
+  pub key_found : (i : ℕ) (key : Bytes) → i < length pairs → slice_get strings i ≡ Some key → (e : Bytes × Bytes) → (get_or pairs i e).0 ≡ key
+  key_found i key lt is e = sym (key_there i key e lt) ∙ get_or_from_slice_get strings i key key is
+
   pub item_there : (i : ℕ) (d : Bytes) (e : Bytes × Bytes) → i < length pairs → get_or strings (length pairs + i) d ≡ (get_or pairs i e).1
   item_there i d e lt =
       (λ k. get_or (are k) (sym (many_keys pairs) k + i) d) ∙ get_or-append-add (keys_of pairs) (items_of pairs) i d ∙ get_or-map (λ pair. pair.1) pairs i e d lt
@@ -97,73 +96,6 @@ same_tests true true one two so back = refl
 same_tests true false one two so back = let yes = two.1 (so (one.0 refl)) in absurd cc
 same_tests false true one two so back = let yes = one.1 (back (two.0 refl)) in absurd cc
 same_tests false false one two so back = refl
-
--- ---- where a key stands
-
-sorted_after : (low : Bytes) (pairs : Pairs) → AllByRecursion (λ later. IsBelow low later.0) pairs → AllByRecursion (λ later. IsAtMost low later) (keys_of pairs)
-sorted_after low [] all = tt
-sorted_after low (pair ∷ pairs) all = (below_is_at_most low pair.0 all.0, sorted_after low pairs all.1)
-
--- ascending keys are sorted
-pub keys_sorted : (pairs : Pairs) → IsAscending pairs → IsSorted (keys_of pairs)
-keys_sorted [] ascending = tt
-keys_sorted (pair ∷ pairs) ascending = (sorted_after pair.0 pairs ascending.0, keys_sorted pairs ascending.1)
-
-module _ (key : Bytes) where
-  pub same_key : (pairs : Pairs) (i : ℕ) → IsLastEqual key (keys_of pairs) i → HoldsAt (λ pair. pair.0 ≡ key) pairs i
-  same_key pairs i last = λ d. sym (get_or-map (λ pair. pair.0) pairs i d d.0 (omega (arith, last.within, many_keys pairs))) ∙ last.here d.0
-
-  pub found_key : (pairs : Pairs) (i : ℕ) → IsAscending pairs → IsLastEqual key (keys_of pairs) i → StandsAt pairs key i
-  found_key pairs i ascending last = stands key pairs i ascending (omega (arith, last.within, many_keys pairs)) (same_key pairs i last)
-
-  -- none of the keys is below one that is below them all
-  none_below : (pairs : Pairs) → AllByRecursion (λ pair. IsBelow key pair.0) pairs → count_below key (keys_of pairs) ≡ 0
-  none_below [] all = refl
-  none_below (pair ∷ pairs) all =
-      let no : is_below pair.0 key ≡ false = ap is_lt (below_is_above key pair.0 all.0) in
-      rw no (none_below pairs all.1)
-
-  other_keys : (pair : Bytes × Bytes) (pairs : Pairs) → All (λ other. other ≢ key) (keys_of (pair ∷ pairs)) → All (λ other. other ≢ key) (keys_of pairs)
-  other_keys pair pairs others k d lt = others (suc k) d (omega arith)
-
-  module _ (pair : Bytes × Bytes) (pairs : Pairs) where
-    first_below : IsBelow pair.0 key → IsGap pairs key (count_below key (keys_of pairs)) → IsGap (pair ∷ pairs) key (count_below key (keys_of (pair ∷ pairs)))
-    first_below is rest =
-        let step = past key pair pairs is in
-        let yes : is_below pair.0 key ≡ true = ap is_lt is in
-        let count : count_below key (keys_of (pair ∷ pairs)) ≡ suc (count_below key (keys_of pairs)) = rw yes refl in
-        subst (IsGap (pair ∷ pairs) key) (sym count) (record { within = omega (arith, rest.within); before = ap (λ ps. pair ∷ ps) rest.before ∙ sym step.0; after = rest.after ∙ sym step.1 })
-
-    first_above : IsBelow key pair.0 → AllByRecursion (λ later. IsBelow pair.0 later.0) pairs → IsGap (pair ∷ pairs) key (count_below key (keys_of (pair ∷ pairs)))
-    first_above lt later =
-        let all : AllByRecursion (λ other. IsBelow key other.0) (pair ∷ pairs) = (lt, all_so (λ other more. below_trans key pair.0 other.0 lt more) pairs later) in
-        let nothing = all_above key (pair ∷ pairs) all in
-        subst (IsGap (pair ∷ pairs) key) (sym (none_below (pair ∷ pairs) all)) (record { within = omega arith; before = sym nothing.0; after = sym nothing.1 })
-
-    first_so : (o : Ordering) → bytes_cmp pair.0 key ≡ o → pair.0 ≢ key → IsAscending (pair ∷ pairs) → IsGap pairs key (count_below key (keys_of pairs)) → IsGap (pair ∷ pairs) key (count_below key (keys_of (pair ∷ pairs)))
-    first_so Less is other ascending rest = first_below is rest
-    first_so Equal is other ascending rest = absurd (other (equal_is_same pair.0 key is))
-    first_so Greater is other ascending rest = first_above (above_is_below pair.0 key is) ascending.0
-
-  pub missing_key : (pairs : Pairs) → IsAscending pairs → All (λ other. other ≢ key) (keys_of pairs) → IsGap pairs key (count_below key (keys_of pairs))
-  missing_key [] ascending others = record { within = omega arith; before = refl; after = refl }
-  missing_key (pair ∷ pairs) ascending others =
-      first_so pair pairs (bytes_cmp pair.0 key) refl (others 0 pair.0 (omega arith)) ascending (missing_key pairs ascending.1 (other_keys pair pairs others))
-
-  -- what a search among the keys answers
-  module _ (pairs : Pairs) (keys : List Bytes) (are : keys ≡ keys_of pairs) (ascending : IsAscending pairs) where
-    pub found_so : (r : Result ℕ ℕ) → IfOk r (IsLastEqual key keys) → IfOk r (StandsAt pairs key)
-    found_so (Ok i) last = found_key pairs i ascending (subst (λ ks. IsLastEqual key ks i) are last)
-    found_so (Err i) last = tt
-
-    pub same_so : (r : Result ℕ ℕ) → IfOk r (IsLastEqual key keys) → IfOk r (HoldsAt (λ pair. pair.0 ≡ key) pairs)
-    same_so (Ok i) last = same_key pairs i (subst (λ ks. IsLastEqual key ks i) are last)
-    same_so (Err i) last = tt
-
-    pub missing_so : (r : Result ℕ ℕ) → OnErr r (All (λ other. other ≢ key) keys) → IfErr r (λ n. n ≡ count_below key keys) → IfErr r (IsGap pairs key)
-    missing_so (Ok i) others below = tt
-    missing_so (Err n) others below =
-        subst (IsGap pairs key) (sym (below ∙ ap (count_below key) are)) (missing_key pairs ascending (subst (All (λ other. other ≢ key)) are others))
 
 -- keys and items of parts
 pub keys_both : (xs ys : Pairs) → keys_of (xs ++ ys) ≡ keys_of xs ++ keys_of ys

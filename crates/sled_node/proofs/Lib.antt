@@ -9,6 +9,7 @@ pub mod Nearest
 pub mod NodeEdits
 pub mod Merging
 pub mod FromParts
+pub mod LeafNodes
 pub mod NodeEquality
 pub mod Payloads
 pub mod Roots

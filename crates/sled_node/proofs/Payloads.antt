@@ -6,4 +6,5 @@ pub mod WriteAll
 pub mod Data
 pub mod Sizes
 pub mod Nodes
+pub mod OpenLeaves
 pub mod Roots

@@ -1,18 +1,19 @@
 -- Where a key stands among ascending pairs.
-use Rattle.std.proofs.Common.{◌≡◌, ℕ, zero, suc, ◌<◌, ◌≤◌, Bool, true, false, cond, List, [], ◌∷◌, ◌++◌, length, get_or, set, take, drop, refl, sym, ap, subst, ◌∙◌, arith}
+use Rattle.std.proofs.Common.{inl, inr, ◌≡◌, ℕ, zero, suc, ◌+◌, ◌<◌, ◌≤◌, Bool, true, false, cond, List, [], ◌∷◌, ◌++◌, length, get_or, set, take, drop, refl, sym, ap, subst, ◌∙◌, arith}
 use Rattle.std.specs.Prelude.{filter, Result, Ok, Err, IfOk, IfErr}
 use Rattle.std.specs.List.{AllByRecursion, AllWithin, HoldsAt}
 use Rattle.std.specs.List.Sorted.{IsSortedBy, IsSearchInRange, IsBinarySearchResult}
 use Rattle.std.specs.declared.cmp.Ordering.TheVariants.{Less, Equal, Greater}
 use Rattle.std.specs.Cmp.Lexicographic.{nat_list_cmp_total}
 use Rattle.std.specs.Ordering.{is_lt}
+use Rattle.std.proofs.lemmas.Bool.{cases_lt}
 use Rattle.std.proofs.lemmas.List.{set_split}
 use Rattle.std.proofs.lemmas.List.Sorted.{searchable_from_sorted}
 use Rattle.std.proofs.Math.Numerals.{add-one}
 use Rattle.sled_base.specs.Order.{Bytes, bytes_cmp, is_below, IsBelow}
 use Rattle.sled_base.specs.OrderLaws.{equal_is_same, not_below_itself, below_trans, above_is_below, below_is_above}
 use Rattle.sled_node.specs.Pairs.{IsAscending, pairs_below, pairs_above, set_pair, StandsAt, IsGap}
-use Rattle.sled_node.proofs.Ascending.{all_at, ascending_next}
+use Rattle.sled_node.proofs.Ascending.{all_at, ascending_at, ascending_next}
 
 -- what passes everywhere stays, and what passes nowhere goes
 filter_all : {X : Type 0} (p : X → Bool) (xs : List X) → AllByRecursion (λ x. p x ≡ true) xs → filter p xs ≡ xs
@@ -99,6 +100,28 @@ module _ {V : Type 0} (key : Bytes) where
       let rest = gap pairs i ascending.1 (omega arith) before.1 (λ lt. above (omega arith)) in
       let step = past pair pairs before.0 in
       record { within = le; before = ap (λ ps. pair ∷ ps) rest.before ∙ sym step.0; after = rest.after ∙ sym step.1 }
+
+  -- ---- a search by halving, one step
+
+  module _ (pairs : List (Bytes × V)) (ascending : IsAscending pairs) (middle : ℕ) (within : middle < length pairs) where
+    -- the pair in the middle is below, so each before it is
+    pub front_below : HoldsAt (λ pair. IsBelow pair.0 key) pairs middle → AllWithin (λ pair. IsBelow pair.0 key) pairs 0 (middle + 1)
+    front_below here k d from to = elim (cases_lt k middle) [
+      | inl lt ↦ below_trans (get_or pairs k d).0 (get_or pairs middle d).0 key (ascending_at pairs k middle d ascending lt within) (here d)
+      | inr ge ↦ subst (λ n. IsBelow (get_or pairs n d).0 key) (let same : middle ≡ k = omega arith in same) (here d)
+    ]
+
+    -- it is above, so each behind it is
+    pub back_above : HoldsAt (λ pair. IsBelow key pair.0) pairs middle → AllWithin (λ pair. IsBelow key pair.0) pairs middle (length pairs)
+    back_above here k d from to = elim (cases_lt middle k) [
+      | inl lt ↦ below_trans key (get_or pairs middle d).0 (get_or pairs k d).0 (here d) (ascending_at pairs middle k d ascending lt to)
+      | inr ge ↦ subst (λ n. IsBelow key (get_or pairs n d).0) (let same : middle ≡ k = omega arith in same) (here d)
+    ]
+
+  -- the pairs before a place are below, and those from it on are above
+  pub parted : (pairs : List (Bytes × V)) (i : ℕ) → IsAscending pairs → i ≤ length pairs → AllWithin (λ pair. IsBelow pair.0 key) pairs 0 i → AllWithin (λ pair. IsBelow key pair.0) pairs i (length pairs) → IsGap pairs key i
+  parted pairs i ascending le below above =
+      gap pairs i ascending le (front_all (λ pair. IsBelow pair.0 key) pairs i le below) (λ lt d. above i d (omega arith) lt)
 
   -- ascending pairs are sorted
   sorted : (pairs : List (Bytes × V)) → IsAscending pairs → IsSortedBy (λ a b. is_below a.0 b.0) pairs

@@ -1,4 +1,4 @@
--- `==` on the pairs of a node holds just where they are the same.
+-- `==` on the pairs of a node holds exactly if they are the same.
 use Rattle.std.specs.Prelude.{◌≡◌}
 use Rattle.std.proofs.Common.{ap}
 use Rattle.std.specs.Bool.{Decides}

@@ -9,11 +9,11 @@ use Rattle.std.proofs.lemmas.Bool.Decides.{Decides-and, Decides-like}
 use Rattle.sled_base.specs.Order.{Bytes}
 use Rattle.sled_node.specs.Node.{Item, Value, Child, WholeNode}
 
--- the test of two lists, from that of two items
+-- the comparison of two lists, from that of two items
 abbrev pub same_pairs : {V : Type 0} → (V → V → Bool) → List (Bytes × V) → List (Bytes × V) → Bool
 same_pairs same = pointwise (λ v w. pointwise nat_eq v.0 w.0 && same v.1 w.1)
 
--- it holds just where the lists are the same, if the test of two items does
+-- it is true exactly if the lists are the same, provided that the comparison of two items is exact too
 pub same_pairs_Decides : {V : Type 0} (same : V → V → Bool) → ((v w : V) → Decides (same v w) (v ≡ w)) → (xs ys : List (Bytes × V)) → Decides (same_pairs same xs ys) (xs ≡ ys)
 same_pairs_Decides same decides =
     pointwise_decides (λ v w. Decides-like (pointwise nat_eq v.0 w.0 && same v.1 w.1) (λ h i. (h.0 i, h.1 i)) (λ e. (ap (λ x. x.0) e, ap (λ x. x.1) e)) (Decides-and (pointwise nat_eq v.0 w.0) (same v.1 w.1) (bytes_decides v.0 w.0) (decides v.1 w.1)))
@@ -59,7 +59,7 @@ same_bytes = pointwise nat_eq
 abbrev pub same_pages : Option ℕ → Option ℕ → Bool
 same_pages = option_eq nat_eq
 
--- Two nodes are compared by their ranges, by the pages and marks beside them, and by what they hold.
+-- Two nodes are compared by their ranges, by their other pages and marks, and by what they hold.
 abbrev pub same_ranges : WholeNode → WholeNode → Bool
 same_ranges v w = (same_bytes v.lo w.lo && same_bytes v.hi w.hi) && nat_eq v.prefix_len w.prefix_len
 
@@ -72,7 +72,7 @@ same_contents a b xs ys = beq a b && same_pairs same_items xs ys
 abbrev pub same_nodes : WholeNode → WholeNode → Bool
 same_nodes v w = (same_ranges v w && same_marks v w) && same_contents v.is_index w.is_index v.pairs w.pairs
 
--- it holds just where the nodes are the same
+-- it is true exactly if the nodes are the same
 module _ (v w : WholeNode) where
   ranges_Decides : Decides (same_ranges v w) (((v.lo ≡ w.lo) × (v.hi ≡ w.hi)) × (v.prefix_len ≡ w.prefix_len))
   ranges_Decides =

@@ -1,4 +1,4 @@
--- How a leaf keeps its pairs: all stored keys, and then all values.
+-- How a leaf stores its pairs: all stored keys, and then all values.
 use Rattle.std.specs.Prelude.{◌≡◌, ◌/◌, List, [], ◌∷◌, ◌++◌, length, take, drop}
 use Rattle.sled_base.specs.Order.{Bytes}
 use Rattle.sled_node.specs.Pairs.{IsWithinLimit, HasPairs}
@@ -9,11 +9,11 @@ pairs_of [] values = []
 pairs_of (key ∷ keys) [] = []
 pairs_of (key ∷ keys) (value ∷ values) = (key, value) ∷ pairs_of keys values
 
--- the first half of the strings with the second
+-- each string of the first half, paired with that of the second half
 abbrev pub paired : List Bytes → List (Bytes × Bytes)
 paired strings = pairs_of (take (length strings / 2) strings) (drop (length strings / 2) strings)
 
--- what every leaf keeps
+-- what holds for the strings of every leaf
 pub record IsLeaf (strings : List Bytes) : Type 0 where
   pub whole : keys_of (paired strings) ++ items_of (paired strings) ≡ strings
   pub stored : HasPairs IsWithinLimit (paired strings)

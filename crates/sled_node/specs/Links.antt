@@ -1,4 +1,4 @@
--- Which links a node accepts, and what they make of it.
+-- Which links a node accepts, and what they do to it.
 use Rattle.std.specs.Prelude.{◌≡◌, ℕ, ◌<◌, ◌≤◌, true, false, ◌==◌, List, [], ◌∷◌, length, Option, Some, None, Any, ⊤, if◌then◌else◌}
 use Rattle.sled_base.specs.Order.{Bytes}
 use Rattle.sled_node.specs.declared.node.link.Link.{Link}
@@ -7,12 +7,12 @@ use Rattle.sled_node.specs.Pairs.{IsWithinLimit, set_pair, del_pair}
 use Rattle.sled_node.specs.Node.{Item, Value, Child, WholeNode, whole, IsInRange}
 use Rattle.sled_node.specs.Limits.{pairs_limit}
 
--- an index that leads to the child that is being merged
+-- a pair leads to the child that is being merged
 abbrev pub LeadsToMerging : Option ℕ → List (Bytes × Item) → Type 0
 LeadsToMerging None pairs = ⊥
 LeadsToMerging (Some page) pairs = Any (λ pair. pair.1 ≡ Child page) pairs
 
--- whether a node accepts the link, its own mark aside
+-- whether a node accepts the link, apart from the node's own mark
 abbrev pub AcceptsHere : WholeNode → Link → Type 0
 AcceptsHere n (Set key value) = (n.is_index ≡ false) × IsInRange n (whole n key) × IsWithinLimit (whole n key) × IsWithinLimit value × (length (set_pair (whole n key) (Value value) n.pairs) ≤ pairs_limit)
 AcceptsHere n (Del key) = (n.is_index ≡ false) × IsWithinLimit (whole n key)
@@ -34,7 +34,7 @@ abbrev pub without_merged : Option ℕ → List (Bytes × Item) → List (Bytes 
 without_merged None pairs = pairs
 without_merged (Some page) pairs = without_child page pairs
 
--- applying the link allocates nothing: only for a pair that is put in memory may be asked
+-- applying the link allocates nothing: only setting a pair may need memory
 abbrev pub AllocatesNothing : Link → Type 0
 AllocatesNothing (Set key value) = ⊥
 AllocatesNothing (Del key) = ⊤

@@ -1,10 +1,10 @@
--- What a node has at a whole key.
+-- What a node has for a whole key.
 use Rattle.std.specs.Prelude.{◌≢◌}
 use Rattle.std.specs.List.{AllByRecursion, Contains}
 use Rattle.sled_base.specs.Order.{Bytes}
 use Rattle.sled_node.specs.Node.{Value, WholeNode}
 
--- the whole key is there, with the value
+-- the node has the whole key, with the value
 abbrev pub HasValue : WholeNode → Bytes → Bytes → Type 0
 HasValue n key value = Contains n.pairs (key, Value value)
 

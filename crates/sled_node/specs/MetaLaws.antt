@@ -14,7 +14,7 @@ use Rattle.sled_node.specs.Pairs.{IsAscending, pairs_below, pairs_above}
 use Rattle.sled_node.specs.Meta.{Roots, is_name, root_of, with_root, without_root, with_roots}
 
 module _ (name : Bytes) where
-  -- where all names are below, all of them stay before the name
+  -- if all names are below, all of them come before the name
   all_before : (roots : Roots) → AllByRecursion (λ pair. IsBelow pair.0 name) roots → (pairs_below name roots ≡ roots) × (pairs_above name roots ≡ [])
   all_before [] below = (refl, refl)
   all_before (pair ∷ roots) below =
@@ -29,7 +29,7 @@ module _ (name : Bytes) where
       let both = all_before roots below in
       ap (λ front. front ++ (name, root) ∷ pairs_above name roots) both.0 ∙ ap (λ back. roots ++ (name, root) ∷ back) both.1
 
-  -- where all names are above, all of them stay behind the name
+  -- if all names are above, all of them come after the name
   all_after : (roots : Roots) → AllByRecursion (λ pair. IsBelow name pair.0) roots → (pairs_below name roots ≡ []) × (pairs_above name roots ≡ roots)
   all_after [] above = (refl, refl)
   all_after (pair ∷ roots) above =
@@ -54,13 +54,13 @@ put_behind front (pair ∷ pairs) ascending =
     let regrouped = append_assoc front (pair ∷ []) pairs in
     ap (with_roots pairs) last ∙ put_behind (front ++ pair ∷ []) pairs (subst IsAscending (sym regrouped) ascending) ∙ regrouped
 
--- ascending pairs, put into the empty map in their order, are the map
+-- setting ascending pairs in the empty map, in their order, results in these pairs
 pub put_in_order : (pairs : Roots) → IsAscending pairs → with_roots pairs [] ≡ pairs
 put_in_order pairs ascending = put_behind [] pairs ascending
 
--- ---- what a name that was set, or taken out, reads
+-- ---- what reading a name returns after it was set or removed
 
--- what the first names read, or else the others
+-- the root that the first names have, or else that of the others
 abbrev or_else : Option ℕ → Option ℕ → Option ℕ
 or_else (Some root) other = Some root
 or_else None other = other
@@ -79,7 +79,7 @@ module _ (name : Bytes) where
   read_in_turn (pair ∷ front) back =
       ap (cond (is_name name pair.0) (Some pair.1)) (read_in_turn front back) ∙ one_of (is_name name pair.0) pair.1 (root_of name front) (root_of name back)
 
-  -- names that are picked by what they are
+  -- names that a predicate picks
   module _ (picks : Bytes → Bool) where
     abbrev picked : Roots → Roots
     picked roots = filter (λ pair. picks pair.0) roots
@@ -115,19 +115,19 @@ module _ (name : Bytes) where
   above_missing : (roots : Roots) → root_of name (pairs_above name roots) ≡ None
   above_missing roots = dropped (λ other. is_below name other) not_below_itself roots
 
-  -- a name that was set reads its root
+  -- reading a name that was set returns its root
   pub reads_back : (root : ℕ) (roots : Roots) → root_of name (with_root name root roots) ≡ Some root
   reads_back root roots =
       read_in_turn (pairs_below name roots) ((name, root) ∷ pairs_above name roots)
       ∙ ap (λ found. or_else found (root_of name ((name, root) ∷ pairs_above name roots))) (below_missing roots)
       ∙ ap (λ o. cond (is_eq o) (Some root) (root_of name (pairs_above name roots))) (tied_itself nat_list_cmp_total name)
 
-  -- a name that was taken out reads none
+  -- reading a removed name returns None
   pub reads_none : (roots : Roots) → root_of name (without_root name roots) ≡ None
   reads_none roots =
       read_in_turn (pairs_below name roots) (pairs_above name roots) ∙ ap (λ found. or_else found (root_of name (pairs_above name roots))) (below_missing roots) ∙ above_missing roots
 
--- another name reads what it did
+-- reading another name returns what it did before
 module _ (name other : Bytes) (roots : Roots) where
   abbrev lows : Roots
   lows = pairs_below name roots
@@ -160,7 +160,7 @@ module _ (name other : Bytes) (roots : Roots) where
   pub stays_where_taken_out : other ≢ name → root_of other (without_root name roots) ≡ root_of other roots
   stays_where_taken_out apart = read_in_turn other lows highs ∙ aside (bytes_cmp other name) refl apart
 
--- ---- a name that was set and is taken out again
+-- ---- a name that was set and is removed again
 
 module _ (name : Bytes) (root : ℕ) where
   above_all : (pair : Bytes × ℕ) (roots : Roots) → IsBelow name pair.0 → AllByRecursion (λ later. IsBelow pair.0 later.0) roots → AllByRecursion (λ later. IsBelow name later.0) roots
@@ -175,7 +175,7 @@ module _ (name : Bytes) (root : ℕ) where
       let put : with_root name root roots ≡ (name, root) ∷ roots = ap (λ front. front ++ (name, root) ∷ pairs_above name roots) parts.0 ∙ ap (λ back. (name, root) ∷ back) parts.1 in
       ap (without_root name) put ∙ rw itself (ap (λ front. front ++ pairs_above name roots) parts.0 ∙ parts.1)
 
-  -- behind a name that is below it
+  -- after a name that is below it
   behind_one : (pair : Bytes × ℕ) (roots : Roots) → IsBelow pair.0 name → (pairs_below name (pair ∷ roots) ≡ pair ∷ pairs_below name roots) × (pairs_above name (pair ∷ roots) ≡ pairs_above name roots)
   behind_one pair roots lt =
       let here : is_below pair.0 name ≡ true = ap is_lt lt in
@@ -196,12 +196,12 @@ module _ (name : Bytes) (root : ℕ) where
       ∙ ap (λ front. front ++ pairs_above name (pair ∷ with_root name root roots)) taken.0 ∙ ap (λ back. pair ∷ pairs_below name (with_root name root roots) ++ back) taken.1
       ∙ ap (λ rest. pair ∷ rest) (others (rw is at missing))
 
-  -- a name that was missing leaves the map as it was
+  -- setting and removing a missing name leaves the map as it was
   pub taken_back : (roots : Roots) → IsAscending roots → root_of name roots ≡ None → without_root name (with_root name root roots) ≡ roots
   taken_back [] ascending missing = back_before [] tt
   taken_back (pair ∷ roots) ascending missing = back_one pair roots ascending missing (λ none. taken_back roots ascending.1 none) (bytes_cmp name pair.0) refl
 
--- ---- a name that was given another root and is given its former one again
+-- ---- a name that was set to another root and is set to its former root again
 
 module _ (name : Bytes) (root former : ℕ) where
   -- before names that are above it
@@ -211,7 +211,7 @@ module _ (name : Bytes) (root former : ℕ) where
       let itself = not_below_itself name in
       rw itself (ap (λ front. front ++ (name, other) ∷ pairs_above name roots) parts.0 ∙ ap (λ back. (name, other) ∷ back) parts.1)
 
-  -- behind a name that is below it
+  -- after a name that is below it
   set_behind : (some : ℕ) (pair : Bytes × ℕ) (roots : Roots) → IsBelow pair.0 name → with_root name some (pair ∷ roots) ≡ pair ∷ with_root name some roots
   set_behind some pair roots lt =
       let parts = behind_one name some pair roots lt in
@@ -233,7 +233,7 @@ module _ (name : Bytes) (root former : ℕ) where
       let lt = above_is_below name pair.0 is in
       ap (with_root name former) (set_behind root pair roots lt) ∙ set_behind former pair (with_root name root roots) lt ∙ ap (λ rest. pair ∷ rest) (others there)
 
-  -- leaves the map as it was
+  -- setting the former root again leaves the map as it was
   pub given_back : (roots : Roots) → IsAscending roots → root_of name roots ≡ Some former → with_root name former (with_root name root roots) ≡ roots
   given_back [] ascending there = absurd cc
   given_back (pair ∷ roots) ascending there = given_one pair roots ascending (given_back roots ascending.1) (bytes_cmp name pair.0) refl there

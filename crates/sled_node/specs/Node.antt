@@ -5,12 +5,12 @@ use Rattle.sled_base.specs.Order.{Bytes, IsBelow, IsAtMost}
 use Rattle.sled_node.specs.Pairs.{IsWithinLimit, IsAscending}
 use Rattle.sled_node.specs.Limits.{pairs_limit, prefix_limit}
 
--- what stands behind a key: a leaf's value, or an index's page
+-- what a key leads to: a leaf's value, or an index's page
 pub data Item : Type 0 where
   Value : Bytes → Item
   Child : ℕ → Item
 
--- A node with whole keys. An empty hi is no upper end; prefix_len is only a number of the node.
+-- A node with whole keys. If hi is empty, the range has no upper end. Keys are whole, so prefix_len is only a number of the node.
 pub record WholeNode : Type 0 where
   pub prefix_len : ℕ
   pub lo : Bytes
@@ -23,11 +23,11 @@ pub record WholeNode : Type 0 where
   pub is_index : Bool
   pub pairs : List (Bytes × Item)
 
--- a stored key made whole, by the first bytes of lo
+-- the whole key of a stored key: the first bytes of lo, and the stored key
 abbrev pub whole : WholeNode → Bytes → Bytes
 whole n stored = take n.prefix_len n.lo ++ stored
 
--- not below lo, and below hi where that isn't empty
+-- not below lo, and below hi unless that is empty
 abbrev pub IsInRange : WholeNode → Bytes → Type 0
 IsInRange n key = IsAtMost n.lo key × (n.hi ≢ [] → IsBelow key n.hi)
 
@@ -45,11 +45,11 @@ IsPage page = (0 < page) × (page < 2 ^ 64)
 pub record IsWellFormed (n : WholeNode) : Type 0 where
   -- lo < hi, or hi is empty
   pub range : n.hi ≢ [] → IsBelow n.lo n.hi
-  -- the first prefix_len bytes of lo and hi are the same; there are none where hi is empty
+  -- the first prefix_len bytes of lo and hi are the same; there are none if hi is empty
   pub prefix_byte : n.prefix_len ≤ prefix_limit
   pub prefix_open : n.hi ≡ [] → n.prefix_len ≡ 0
   pub prefix_common : take n.prefix_len n.lo ≡ take n.prefix_len n.hi
-  -- the keys rise and are in the range
+  -- the keys ascend and are in the range
   pub ascending : IsAscending n.pairs
   pub in_range : AllByRecursion (λ pair. IsInRange n pair.0) n.pairs
   -- the limits

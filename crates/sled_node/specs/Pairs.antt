@@ -27,19 +27,19 @@ set_pair key item pairs = pairs_below key pairs ++ (key, item) ∷ pairs_above k
 abbrev pub del_pair : {V : Type 0} → Bytes → List (Bytes × V) → List (Bytes × V)
 del_pair key pairs = pairs_below key pairs ++ pairs_above key pairs
 
--- the key stands at place i: the pairs before it are below, those after it above
+-- the key is at place i: the pairs before it have lower keys, and those after it higher ones
 pub record StandsAt {V : Type 0} (pairs : List (Bytes × V)) (key : Bytes) (i : ℕ) : Type 0 where
   pub within : i < length pairs
   pub before : take i pairs ≡ pairs_below key pairs
   pub after : drop (i + 1) pairs ≡ pairs_above key pairs
 
--- the key is missing, and would stand at place i
+-- the key is missing, and would be inserted at place i
 pub record IsGap {V : Type 0} (pairs : List (Bytes × V)) (key : Bytes) (i : ℕ) : Type 0 where
   pub within : i ≤ length pairs
   pub before : take i pairs ≡ pairs_below key pairs
   pub after : drop i pairs ≡ pairs_above key pairs
 
--- the stored pairs of a leaf or an index, whose items are to fit
+-- the stored pairs of a leaf or an index, whose items must fit
 pub record HasPairs {V : Type 0} (fits : V → Type 0) (pairs : List (Bytes × V)) : Type 0 where
   pub few : length pairs ≤ pairs_limit
   pub ascending : IsAscending pairs

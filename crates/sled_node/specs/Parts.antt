@@ -37,12 +37,12 @@ pub record HoldsData (n : WholeNode) (parts : Data) : Type 0 where
   pub kind : n.is_index ≡ is_index parts
   pub pairs : n.pairs ≡ pairs_under (take n.prefix_len n.lo) parts
 
--- what stands behind a key, where it is lent
+-- what a key leads to, of a borrowed item
 abbrev pub item_of : Lent → Item
 item_of (lent.Value value) = Value value.now
 item_of (lent.Child page) = Child page
 
--- what a leaf's stored pairs become; an index has no values
+-- the stored pairs of a leaf after a change; an index has no values, and is unchanged
 abbrev pub set_stored : Bytes → Bytes → Data → Data
 set_stored key value (Leaf pairs) = Leaf (set_pair key value pairs)
 set_stored key value (Index pairs) = Index pairs
@@ -69,7 +69,7 @@ abbrev pub LeadsTo : ℕ → Data → Type 0
 LeadsTo page (Leaf pairs) = ⊥
 LeadsTo page (Index pairs) = Any (λ pair. pair.1 ≡ page) pairs
 
--- the bounds of a well-formed node, whose stored keys lack p bytes
+-- the bounds of a well-formed node whose stored keys lack p bytes
 pub record AreBounds (p : ℕ) (lo hi : Bytes) : Type 0 where
   pub range : hi ≢ [] → IsBelow lo hi
   pub prefix_open : hi ≡ [] → p ≡ 0
@@ -84,7 +84,7 @@ abbrev pub AreStoredWithin : Bytes → Bytes → ℕ → Data → Type 0
 AreStoredWithin lo hi most (Leaf pairs) = AllByRecursion (λ pair. IsStoredWithin lo hi most pair.0) pairs
 AreStoredWithin lo hi most (Index pairs) = AllByRecursion (λ pair. IsStoredWithin lo hi most pair.0) pairs
 
--- what every leaf and every index keeps
+-- what holds for every leaf and every index
 abbrev pub HasStored : Data → Type 0
 HasStored (Leaf pairs) = HasPairs IsWithinLimit pairs
 HasStored (Index pairs) = HasPairs (λ page. page < 2 ^ 64) pairs

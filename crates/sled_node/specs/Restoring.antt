@@ -1,10 +1,10 @@
--- Stored keys that come to lack other first bytes.
+-- Storing keys with another prefix left out.
 use Rattle.std.specs.Prelude.{ℕ, List, ◌++◌, length, map, take, drop}
 use Rattle.sled_base.specs.Order.{Bytes}
 use Rattle.sled_node.specs.declared.node.data.Data.{Data}
 use Rattle.sled_node.specs.declared.node.data.Data.TheVariants.{Leaf, Index}
 
--- the pairs, of which the stored keys lacked front, with stored keys that lack so many bytes
+-- pairs whose stored keys lacked `front`, with stored keys that lack the first `skipped` bytes of the whole key instead
 abbrev pub restored : {V : Type 0} → Bytes → ℕ → List (Bytes × V) → List (Bytes × V)
 restored front skipped pairs = map (λ pair. (drop skipped (front ++ pair.0), pair.1)) pairs
 
@@ -25,7 +25,7 @@ abbrev pub later_data : ℕ → Data → Data
 later_data count (Leaf pairs) = Leaf (drop count pairs)
 later_data count (Index pairs) = Index (drop count pairs)
 
--- the pairs of both, where both are of one kind
+-- the pairs of both, if both are of the same kind
 abbrev pub joined_data : Data → Data → Data
 joined_data (Leaf left) (Leaf right) = Leaf (left ++ right)
 joined_data (Index left) (Index right) = Index (left ++ right)

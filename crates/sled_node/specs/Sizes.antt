@@ -1,4 +1,4 @@
--- How large a node is, and when it is to be split or merged.
+-- How large a node is, and when it should be split or merged.
 use Rattle.std.specs.Prelude.{◌≡◌, ℕ, ◌+◌, ◌<◌, false, List, length, drop, None}
 use Rattle.std.specs.List.{sum_by}
 use Rattle.sled_base.specs.Order.{Bytes}
@@ -17,7 +17,7 @@ ShouldSplit n = (most_pairs n.is_index < length n.pairs) × IsUnmarked n
 abbrev pub ShouldMerge : WholeNode → Type 0
 ShouldMerge n = (length n.pairs < fewest_pairs n.is_index) × IsUnmarked n
 
--- the value's length, or what counts for a page
+-- the length of the value, or the bytes that a page counts as
 abbrev pub item_size : Item → ℕ
 item_size (Value value) = length value
 item_size (Child page) = page_bytes
@@ -26,7 +26,7 @@ item_size (Child page) = page_bytes
 abbrev pub pair_size : ℕ → Bytes × Item → ℕ
 pair_size skipped pair = length (drop skipped pair.0) + item_size pair.1
 
--- what counts for a node, the lengths of both bounds, and the size of each pair
+-- the bytes that a node counts as, the lengths of both bounds, and the size of each pair
 abbrev pub node_size : WholeNode → ℕ
 node_size n = node_bytes + length n.lo + length n.hi + sum_by (pair_size n.prefix_len) n.pairs
 

@@ -10,7 +10,7 @@ common_length [] b = 0
 common_length (x ∷ a) [] = 0
 common_length (x ∷ a) (y ∷ b) = if x == y then 1 + common_length a b else 0
 
--- the prefix length of a part with these bounds: what they have in common, and nothing where hi is empty
+-- the prefix length of a part with these bounds: what they have in common, up to the limit, and 0 if hi is empty
 abbrev pub own_prefix : Bytes → Bytes → ℕ
 own_prefix lo hi = min prefix_limit (common_length lo hi)
 
@@ -21,7 +21,7 @@ pub record IsSeparator (left right s : Bytes) : Type 0 where
   pub not_above_right : IsAtMost s right
   pub shortest : (b : Bytes) → IsBelow left b → IsAtMost b right → length s ≤ length b
 
--- the least key of pairs that rise, and the greatest
+-- the least key of ascending pairs, and the greatest
 abbrev pub least : List (Bytes × Item) → Option Bytes
 least [] = None
 least (pair ∷ pairs) = Some pair.0
@@ -41,14 +41,14 @@ SeparatesAt index (Some left) (Some right) s = Separates index left right s
 SeparatesAt index None right s = ⊥
 SeparatesAt index (Some left) None s = ⊥
 
--- a node is split behind so many of its pairs, at s
+-- a node is split after its first `count` pairs, at s
 pub record IsSplitPlace (n : WholeNode) (count : ℕ) (s : Bytes) : Type 0 where
   -- each part has a pair
   pub some : 1 ≤ count
   pub others : count < length n.pairs
   pub separates : SeparatesAt n.is_index (greatest (take count n.pairs)) (least (drop count n.pairs)) s
 
--- l and r are the parts of n, and the left has so many of its pairs
+-- l and r are the parts of n, and the left one has `many` of its pairs
 pub record SplitsBehind (n : WholeNode) (many : ℕ) (l r : WholeNode) : Type 0 where
   -- all pairs
   pub pairs : l.pairs ++ r.pairs ≡ n.pairs
@@ -69,18 +69,18 @@ pub record SplitsBehind (n : WholeNode) (many : ℕ) (l r : WholeNode) : Type 0 
   pub left_prefix : l.prefix_len ≡ own_prefix l.lo l.hi
   pub right_prefix : r.prefix_len ≡ own_prefix r.lo r.hi
 
--- l and r are the parts of n, and the left has half of its pairs, and one more
+-- l and r are the parts of n, and the left one has half of its pairs, and one more
 abbrev pub Splits : WholeNode → WholeNode → WholeNode → Type 0
 Splits n l r = SplitsBehind n (length n.pairs / 2 + 1) l r
 
--- the right neighbour of a node of its kind, and few enough pairs for one node
+-- r is the right neighbour of l and of the same kind, and together they have few enough pairs for one node
 pub record CanReceive (l r : WholeNode) : Type 0 where
   pub kind : l.is_index ≡ r.is_index
   pub bounded : l.hi ≢ []
   pub meet : l.hi ≡ r.lo
   pub few : length l.pairs + length r.pairs ≤ pairs_limit
 
--- a node that has taken in its right neighbour
+-- a node merged with its right neighbour
 abbrev pub merged : WholeNode → WholeNode → WholeNode
 merged l r = record {
   prefix_len = own_prefix l.lo r.hi;
@@ -93,7 +93,7 @@ merged l r = record {
   pairs = l.pairs ++ r.pairs;
 }
 
--- the parts can be merged, and are the whole again, with the prefix length of its bounds
+-- the parts can be merged, and the result is the whole node again, with the prefix length of its bounds
 pub record MergeBack (n l r : WholeNode) : Type 0 where
   pub received : CanReceive l r
   pub whole : merged l r ≡ record n { prefix_len = own_prefix n.lo n.hi }

@@ -1,4 +1,4 @@
-//! What holds of the definitions that contracts cite.
+//! Laws of the definitions that contracts cite.
 
 ghost use Rattle.std.specs.Prelude.{◌≡◌, ◌≢◌, ℕ, Some, None};
 ghost use Rattle.sled_base.specs.Order.{Bytes};
@@ -8,25 +8,25 @@ ghost use Rattle.sled_node.specs.Meta.{Roots, root_of, with_root, without_root};
 use crate::meta::MAX_NAMES;
 use crate::node::{MAX_BYTES, MAX_PAIRS};
 
-/// The constants of the crate are the numbers of the definitions.
+/// Proves that the constants of the crate are the numbers of the definitions.
 pub fn constants_are_the_numbers()
     ensures bytes { MAX_BYTES ≡ bytes_limit }
     ensures pairs { MAX_PAIRS ≡ pairs_limit }
     ensures names { MAX_NAMES ≡ names_limit }
 {}
 
-/// A root map reads back the name that was set.
+/// Proves that reading a name that was set returns its root.
 pub fn a_set_name_is_read_back()
     ensures { (name : Bytes) (root : ℕ) (roots : Roots)
         → root_of name (with_root name root roots) ≡ Some root }
 {}
 
-/// A root map lacks the name that was taken out.
+/// Proves that a removed name is missing.
 pub fn a_name_taken_out_is_missing()
     ensures { (name : Bytes) (roots : Roots) → root_of name (without_root name roots) ≡ None }
 {}
 
-/// Setting a name, or taking it out, leaves the roots of the others.
+/// Proves that setting or removing a name leaves the roots of all other names unchanged.
 pub fn other_names_are_left()
     ensures set { (name other : Bytes) (root : ℕ) (roots : Roots) → other ≢ name
         → root_of other (with_root name root roots) ≡ root_of other roots }

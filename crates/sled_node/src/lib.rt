@@ -2,10 +2,10 @@
 //!
 //! In reading order:
 //!
-//! - `node`: nodes: a range of keys, and the pairs whose keys lie in it; links
+//! - `node`: nodes: a range of keys, and the pairs whose keys are in it; links
 //! - `meta`: the root map: which page is the root of each named tree
-//! - `serialization`: payloads of links and nodes, beside those of the plain values of `sled_base`
-//! - `laws`: what holds of the definitions that contracts cite
+//! - `serialization`: payloads of links and nodes, in addition to those of the plain values of `sled_base`
+//! - `laws`: laws of the definitions that contracts cite
 #![tactic(auto)]
 
 pub mod laws;

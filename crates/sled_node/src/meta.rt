@@ -1,6 +1,6 @@
 //! The root map of a page cache: which page is the root of each named tree.
 
-ghost use Rattle.std.specs.Prelude.{◌≡◌, ◌≢◌, ◌↔◌, ◌<◌, ◌^◌, [], length, None, IsTrue, IfSome, IfNone, IfOk, IsOk, OnOk, OnErr, nat_eq};
+ghost use Rattle.std.specs.Prelude.{◌≡◌, ◌≢◌, ◌↔◌, ◌<◌, [], length, None, IsTrue, IfSome, IfNone, IfOk, IsOk, OnOk, OnErr, nat_eq};
 ghost use Rattle.std.specs.Cmp.{partial_equiv_from_equiv};
 ghost use Rattle.sled_node.specs.Pairs.{IsWithinLimit};
 ghost use Rattle.sled_node.specs.Equality.{same_pairs, index_equiv};
@@ -43,7 +43,7 @@ impl Model for Meta {
 }
 
 impl Meta {
-    /// A map without names. It allocates nothing.
+    /// Returns a map without names. It allocates nothing.
     pub fn default(alloc: Global) -> Meta
         ensures { result ≡ [] }
     {
@@ -53,7 +53,7 @@ impl Meta {
         }
     }
 
-    /// How many names there are.
+    /// Returns the number of names.
     pub fn len(&self) -> usize
         ensures value { result ≡ length self.now }
         ensures map { IsRootMap self.now }
@@ -61,32 +61,32 @@ impl Meta {
         self.roots.len()
     }
 
-    /// Whether there are no names.
+    /// Returns whether there are no names.
     pub fn is_empty(&self) -> bool
         ensures { IsTrue result ↔ (self.now ≡ []) }
     {
         self.roots.is_empty()
     }
 
-    /// The root page of a name, if the name is there. It allocates nothing.
+    /// Returns the root page of a name, or None if the map lacks the name. It allocates nothing.
     pub fn get_root(&self, name: &[u8]) -> Option<PageId>
         ensures { result ≡ root_of name.now self.now }
     {
         root_of(&self.roots, name)
     }
 
-    /// Whether the name may be set: it is there, or fewer than [`MAX_NAMES`] names are.
+    /// Returns whether the name may be set: the map has it already, or has fewer than [`MAX_NAMES`] names.
     pub fn has_room(&self, name: &[u8]) -> bool
         ensures { IsTrue result ↔ HasRoom name.now self.now }
     {
         self.roots.len() < MAX_NAMES || self.get_root(name).is_some()
     }
 
-    /// Gives a name its root page, and answers the page that it had before.
+    /// Sets the root page of a name, and returns the page that it had before, or None if it is new.
     ///
-    /// The name isn't longer than [`MAX_BYTES`](crate::node::MAX_BYTES), and the map [`has_room`](Meta::has_room) for it. Where it
-    /// is new, the map keeps a copy. An error means that an allocation failed, and leaves the map unchanged. It comes only where
-    /// the name isn't there.
+    /// The name must not be longer than [`MAX_BYTES`](crate::node::MAX_BYTES), and the map must have room for it
+    /// ([`has_room`](Meta::has_room)). If the name is new, the map keeps a copy. An error means that an allocation failed, and leaves
+    /// the map unchanged. It happens only for a new name.
     pub fn set_root(&mut self, name: IVec, root: PageId) -> Result<Option<PageId>, AllocError>
         requires name { IsWithinLimit name }
         requires room { HasRoom name self.old }
@@ -102,7 +102,7 @@ impl Meta {
         self.put_root(copy, root)
     }
 
-    /// The same with a name that the map takes.
+    /// Sets the root page of a name as [`set_root`](Meta::set_root) does, but takes ownership of the name and copies nothing.
     pub fn put_root(&mut self, name: Vec<u8>, root: PageId) -> Result<Option<PageId>, AllocError>
         requires name { IsWithinLimit name.items }
         requires room { HasRoom name.items self.old }
@@ -115,8 +115,8 @@ impl Meta {
         Ok(former)
     }
 
-    /// Gives a name that is there another root page, and answers the page that it had before. Another name is left missing. It
-    /// allocates nothing.
+    /// Replaces the root page of a name, and returns the page that it had before. If the map lacks the name, returns None and leaves
+    /// the map unchanged. It allocates nothing.
     pub fn replace_root(&mut self, name: &[u8], root: PageId) -> Option<PageId>
         ensures former { result ≡ root_of name.now self.old }
         ensures there { IfSome result (λ _. self.new ≡ with_root name.now root self.old) }
@@ -125,7 +125,7 @@ impl Meta {
         replace_page(&mut self.roots, name, root)
     }
 
-    /// Takes a name out, and answers the page that it had, if the name was there. It allocates nothing.
+    /// Removes a name, and returns the page that it had, or None if the map lacks the name. It allocates nothing.
     pub fn del_root(&mut self, name: &[u8]) -> Option<PageId>
         ensures former { result ≡ root_of name.now self.old }
         ensures value { self.new ≡ without_root name.now self.old }
@@ -133,7 +133,7 @@ impl Meta {
         take_page(&mut self.roots, name)
     }
 
-    /// How the map would be written without the name. An error means that an allocation failed.
+    /// Encodes the map as it would be without the name. An error means that an allocation failed.
     pub fn serialize_without(&self, name: &[u8]) -> Result<Vec<u8>, AllocError>
         ensures { IfOk result
             (λ bytes. bytes.items ≡ written_roots (without_root name.now self.now)) }
@@ -141,14 +141,14 @@ impl Meta {
         serialize_without(self.alloc, self.roots(), name)
     }
 
-    /// A copy of the names with their root pages, in the order of names. An error means that it could not be allocated.
+    /// Returns a copy of the names with their root pages, in the order of names. An error means that it could not be allocated.
     pub fn tenants(&self) -> Result<BTreeMap<Vec<u8>, PageId>, AllocError>
         ensures { IfOk result (λ tenants. named_pages tenants ≡ self.now) }
     {
         self.roots.clone()
     }
 
-    /// How large the map is, in bytes: for each name its length, and 8 for the page.
+    /// Returns the size of the map in bytes: for each name its length, and 8 for the page.
     pub fn rss(&self) -> u64
         ensures { result ≡ roots_size self.now }
     {
@@ -173,7 +173,7 @@ impl Clone for Meta {
 
     ghost is_clone = { λ v w. w ≡ v };
 
-    /// The same names with their root pages. An error means that an allocation failed.
+    /// Copies the names with their root pages. An error means that an allocation failed.
     fn clone(&self) -> Result<Meta, AllocError> {
         Ok(Meta {
             alloc: self.alloc,

@@ -1,13 +1,13 @@
-//! Nodes: a range of keys, and the pairs whose keys lie in it.
+//! Nodes: a range of keys, and the pairs whose keys are in it.
 
-ghost use Rattle.std.specs.Prelude.{◌≡◌, ◌↔◌, ◌<◌, ◌≤◌, length, Some, IsTrue, IsOk, OnOk, OnErr, slice_get};
+ghost use Rattle.std.specs.Prelude.{◌≡◌, ◌↔◌, ◌<◌, ◌≤◌, length, map, Some, IfOk, IsTrue, IsOk, OnOk, OnErr, slice_get};
 ghost use Rattle.std.specs.Option.{option_map, SomeIff};
 ghost use Rattle.std.specs.Int.NonZero.{non_zero_u64_get};
 ghost use Rattle.std.specs.Cmp.{partial_equiv_from_equiv};
 ghost use Rattle.sled_node.specs.Equality.{same_nodes, node_equiv};
-ghost use Rattle.sled_node.specs.Node.{whole, IsWellFormed, IsInRange, empty_leaf};
+ghost use Rattle.sled_node.specs.Node.{Value, whole, IsWellFormed, IsInRange, empty_leaf, leaf_of};
 ghost use Rattle.sled_node.specs.Links.{Accepts, AcceptsHere, AllocatesNothing, applied};
-ghost use Rattle.sled_node.specs.Pairs.{IsWithinLimit};
+ghost use Rattle.sled_node.specs.Pairs.{HasPairs, IsWithinLimit};
 ghost use Rattle.sled_node.specs.Parts.{node_of, HoldsData, item_of};
 ghost use Rattle.sled_node.specs.declared.node.link.Link.TheVariants.{Set, Del};
 
@@ -45,10 +45,10 @@ pub const MAX_BYTES: usize = (1 << 31) - 1;
 /// The greatest number of pairs in a node.
 pub const MAX_PAIRS: usize = 1 << 24;
 
-/// A range of keys, and the pairs whose keys lie in it.
+/// A range of keys, and the pairs whose keys are in it.
 ///
-/// The range begins with `lo` and ends before `hi`; an empty `hi` is no end. A stored key lacks the first `prefix_len`
-/// bytes of `lo`, which `lo` and `hi` have in common. Contracts see whole keys, and every node is well-formed.
+/// The range begins with `lo` and ends before `hi`. If `hi` is empty, the range has no end. A stored key lacks the first
+/// `prefix_len` bytes of `lo`, which `lo` and `hi` have in common. Contracts see whole keys, and every node is well-formed.
 #[derive(Debug, Drop)]
 pub struct Node {
     next: Option<NonZeroU64>,
@@ -74,7 +74,7 @@ impl Model for Node {
 }
 
 impl Node {
-    /// An empty leaf over all keys. It allocates nothing.
+    /// Returns an empty leaf over all keys. It allocates nothing.
     pub fn default(alloc: Global) -> Node
         ensures { result ≡ empty_leaf }
     {
@@ -89,10 +89,11 @@ impl Node {
         }
     }
 
-    /// The node of these parts, or none where they are ill-formed. It allocates nothing.
+    /// Makes a node of these parts, or returns None if they are ill-formed. It allocates nothing.
     ///
-    /// They are well-formed where `lo` is below `hi` or `hi` is empty, `lo` and `hi` have `prefix_len` bytes in common,
-    /// which is 0 where `hi` is empty, each whole key is in the range, and no bound or whole key is above the limit.
+    /// They are well-formed if all of this holds: `lo` is below `hi` or `hi` is empty, `lo` and `hi` have their first `prefix_len`
+    /// bytes in common, `prefix_len` is 0 if `hi` is empty, each whole key is in the range, and no bound or whole key is longer
+    /// than [`MAX_BYTES`].
     pub fn from_parts(
         prefix_len: u8,
         next: Option<NonZeroU64>,
@@ -129,7 +130,22 @@ impl Node {
         })
     }
 
-    /// How many bytes of `lo` the stored keys lack. `lo` has that many.
+    /// Makes a leaf over all keys of these pairs, or returns None if a leaf can't hold them, as [`Leaf::from_pairs`] tests.
+    ///
+    /// An error means that an allocation failed.
+    pub fn leaf_of(alloc: Global, pairs: Vec<(IVec, IVec)>) -> Result<Option<Node>, AllocError>
+        ensures { IfOk result (λ node. SomeIff node (HasPairs IsWithinLimit pairs.items)
+            (leaf_of (map (λ pair. (pair.0, Value pair.1)) pairs.items))) }
+    {
+        let Some(leaf) = Leaf::from_pairs(alloc, pairs)? else {
+            return Ok(None);
+        };
+        let (lo, hi) = (IVec::default(), IVec::default());
+        let contents = Data::Leaf(leaf);
+        Ok(Node::from_parts(0, None, None, false, lo, hi, contents))
+    }
+
+    /// Returns how many bytes of `lo` the stored keys lack. `lo` has at least that many.
     pub fn prefix_len(&self) -> u8
         ensures value { result ≡ self.now.prefix_len }
         ensures within { result ≤ length self.now.lo }
@@ -137,42 +153,42 @@ impl Node {
         self.prefix_len
     }
 
-    /// The page of the node to the right.
+    /// Returns the page of the node to the right, if there is one.
     pub fn next(&self) -> Option<NonZeroU64>
         ensures { option_map non_zero_u64_get result ≡ self.now.next }
     {
         self.next
     }
 
-    /// The page of the child that is being merged into its left neighbour.
+    /// Returns the page of the child that is being merged into its left neighbour, if there is one.
     pub fn merging_child(&self) -> Option<NonZeroU64>
         ensures { option_map non_zero_u64_get result ≡ self.now.child }
     {
         self.merging_child
     }
 
-    /// Whether the node itself is being merged into its left neighbour, and takes no link any more.
+    /// Returns whether the node itself is being merged into its left neighbour. Such a node accepts no link.
     pub fn merging(&self) -> bool
         ensures { result ≡ self.now.capped }
     {
         self.merging
     }
 
-    /// The least key of the range.
+    /// Returns the least key of the range.
     pub fn lo(&self) -> &IVec
         ensures { result.now ≡ self.now.lo }
     {
         &self.lo
     }
 
-    /// The end of the range, which is not in it. Where it is empty, the range has no end.
+    /// Returns the end of the range, which is not in the range. If it is empty, the range has no end.
     pub fn hi(&self) -> &IVec
         ensures { result.now ≡ self.now.hi }
     {
         &self.hi
     }
 
-    /// The stored keys, with their values or pages. Every node is well-formed.
+    /// Returns the stored keys, with their values or pages. Every node is well-formed.
     pub fn data(&self) -> &Data
         ensures value { HoldsData self.now result.now }
         ensures well_formed { IsWellFormed self.now }
@@ -180,21 +196,21 @@ impl Node {
         &self.contents
     }
 
-    /// Whether the node leads to pages, and holds no values.
+    /// Returns whether the node is an index, which leads to pages and holds no values.
     pub fn is_index(&self) -> bool
         ensures { result ≡ self.now.is_index }
     {
         self.contents.is_index()
     }
 
-    /// How many pairs there are.
+    /// Returns the number of pairs.
     pub fn len(&self) -> usize
         ensures { result ≡ length self.now.pairs }
     {
         self.contents.len()
     }
 
-    /// The stored key of the pair at place `i`, which is below [`len`](Node::len), and what it leads to: a value or a page.
+    /// Returns the stored key of the pair at place `i`, and what it leads to: a value or a page. `i` must be below [`len`](Node::len).
     ///
     /// The first pair is at place 0, and the keys ascend.
     pub fn pair(&self, i: usize) -> (&[u8], Item<'_>)
@@ -214,7 +230,7 @@ impl Node {
         }
     }
 
-    /// Whether the whole key is in the range.
+    /// Returns whether the whole key is in the range.
     pub fn contains_key(&self, key: &[u8]) -> bool
         ensures { IsTrue result ↔ IsInRange self.now key.now }
     {
@@ -222,11 +238,12 @@ impl Node {
             && (self.hi.is_empty() || is_below(key, self.hi.as_slice()))
     }
 
-    /// Whether the link may be applied.
+    /// Returns whether the link may be applied.
     ///
-    /// A merging node accepts no link, and no node one with a key or a value above the limit; keys count whole. `Set`
-    /// wants a leaf, a key in its range and room for a pair; `Del` a leaf; `ParentMergeIntention` a page other than 0,
-    /// and no merging child; `ParentMergeConfirm` an index, and a merging child that it leads to.
+    /// A merging node accepts no link. No node accepts a link whose whole key or value is longer than [`MAX_BYTES`]. `Set` requires
+    /// a leaf with the whole key in its range, which has the key or fewer than [`MAX_PAIRS`] pairs. `Del` requires a leaf.
+    /// `ParentMergeIntention` requires a page other than 0, and that no child is being merged. `ParentMergeConfirm` requires an
+    /// index that leads to the child that is being merged. `ChildMergeCap` requires nothing else.
     pub fn accepts(&self, link: &Link) -> bool
         ensures { IsTrue result ↔ Accepts self.now link.now }
     {
@@ -235,10 +252,10 @@ impl Node {
 
     /// Applies a link that the node [`accepts`](Node::accepts).
     ///
-    /// `Set` maps the key to the value, over the present value if there is one; `Del` takes the key out, or does nothing
-    /// where it is absent; `ParentMergeIntention` marks the child as being merged; `ParentMergeConfirm` takes out the
-    /// first pair that leads to the marked child, and the mark; `ChildMergeCap` marks the node itself. An error means that
-    /// an allocation failed, which happens for a `Set` alone, and leaves the node unchanged.
+    /// `Set` maps the key to the value, and overwrites the present value if there is one. `Del` removes the key, or does nothing if
+    /// it is absent. `ParentMergeIntention` marks the child as being merged. `ParentMergeConfirm` removes the first pair that leads
+    /// to the marked child, and the mark. `ChildMergeCap` marks the node itself. An error means that an allocation failed, which
+    /// happens only for a `Set`, and leaves the node unchanged.
     pub fn apply(&mut self, link: &Link) -> Result<(), AllocError>
         requires { Accepts self.old link.now }
         ensures ok { OnOk result (self.new ≡ applied link.now self.old) }
@@ -255,10 +272,10 @@ impl Node {
         Ok(())
     }
 
-    /// Whether the node may take the pair by [`set_leaf`](Node::set_leaf).
+    /// Returns whether [`set_leaf`](Node::set_leaf) may be called with this stored key and value.
     ///
-    /// It is a leaf with the whole key in its range, neither the whole key nor the value is above
-    /// [`MAX_BYTES`] bytes, and the leaf has the key, or fewer than [`MAX_PAIRS`] pairs. A merging node may take it too.
+    /// The node must be a leaf with the whole key in its range. Neither the whole key nor the value may be longer than [`MAX_BYTES`]
+    /// bytes. The leaf must have the key, or fewer than [`MAX_PAIRS`] pairs. A merging node may take the pair too.
     pub fn accepts_set(&self, key: &IVec, value: &IVec) -> bool
         ensures { IsTrue result ↔ AcceptsHere self.now (Set key.now value.now) }
     {
@@ -274,8 +291,9 @@ impl Node {
         }
     }
 
-    /// Maps a stored key to a value, over the present value if there is one, where the node
-    /// [`accepts`](Node::accepts_set) the pair. A merging node does so too.
+    /// Maps a stored key to a value, and overwrites the present value if there is one.
+    ///
+    /// [`accepts_set`](Node::accepts_set) must hold for the pair. The node may be merging.
     ///
     /// An error means that an allocation failed, and leaves the node unchanged.
     pub fn set_leaf(&mut self, key: IVec, value: IVec) -> Result<(), AllocError>
@@ -286,16 +304,17 @@ impl Node {
         self.put(key.as_slice(), value.as_slice())
     }
 
-    /// Whether the node may be asked to take out the stored key by [`del_leaf`](Node::del_leaf): it is a leaf, and the
-    /// whole key is at most [`MAX_BYTES`] bytes long. The key may be absent or out of the range, and the node merging.
+    /// Returns whether [`del_leaf`](Node::del_leaf) may be called with this stored key: the node is a leaf, and the whole key is at
+    /// most [`MAX_BYTES`] bytes long. The key may be absent or out of the range, and the node may be merging.
     pub fn accepts_del(&self, key: &IVec) -> bool
         ensures { IsTrue result ↔ AcceptsHere self.now (Del key.now) }
     {
         !self.is_index() && self.is_short(key.as_slice())
     }
 
-    /// Takes a stored key and its value out, or does nothing where the key is absent, of a node that
-    /// [`accepts`](Node::accepts_del) the key. A merging node does so too. It allocates nothing.
+    /// Removes a stored key and its value, or does nothing if the key is absent.
+    ///
+    /// [`accepts_del`](Node::accepts_del) must hold for the key. The node may be merging. The call allocates nothing.
     pub fn del_leaf(&mut self, key: &IVec)
         requires { AcceptsHere self.old (Del key.now) }
         ensures { self.new ≡ applied (Del key.now) self.old }
@@ -325,7 +344,10 @@ impl Clone for Node {
 
     ghost is_clone = { λ v w. w ≡ v };
 
-    /// The same node; byte strings above 22 bytes are shared. An error means that an allocation failed.
+    /// Copies the node.
+    ///
+    /// Bounds longer than 22 bytes are shared, and so are such keys of an index. The strings of a leaf are copied. An error means that
+    /// an allocation failed, or that a shared string has more holders than can be counted.
     fn clone(&self) -> Result<Node, AllocError> {
         Ok(Node {
             prefix_len: self.prefix_len,

@@ -1,4 +1,4 @@
-//! Payloads of links and nodes, beside those of the plain values below.
+//! Payloads of links and nodes, in addition to those of the plain values of `sled_base`.
 
 mod links;
 pub(crate) mod pairs;

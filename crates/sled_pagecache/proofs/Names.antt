@@ -1,6 +1,6 @@
 -- The names that the proofs of this crate have in common.
-pub use Rattle.sled_pagecache.proofs.ByIds.{add-by-id, all-by-id, at-id, by-id-all, past-two, set-by-id, zip-first, zip-second}
-pub use Rattle.sled_pagecache.proofs.Lookups.{all-at, at-left, at-right, behind-own, content-own, holds-at, holds_now, kept-at, last-at, map-at, more-at, other-at, other-before, own-at, past-end, put-back, set-at, stands-full}
+pub use Rattle.sled_pagecache.proofs.Table.ByIds.{add-by-id, all-by-id, at-id, by-id-all, past-two, set-by-id, zip-first, zip-second}
+pub use Rattle.sled_pagecache.proofs.Table.Lookups.{all-at, at-left, at-right, behind-own, content-own, holds-at, holds_now, kept-at, last-at, map-at, more-at, other-at, other-before, own-at, past-end, put-back, set-at, stands-full}
 pub use Rattle.sled_base.proofs.LinkedLists.Linking.{get_set_other, get_set_there}
 pub use Rattle.sled_base.specs.Containing.{contains_none}
 pub use Rattle.sled_base.specs.Errors.{error_of, error_of as error_by}
@@ -52,7 +52,7 @@ pub use Rattle.sled_node.specs.Links.{Accepts, applied}
 pub use Rattle.sled_node.specs.Node.{WholeNode, empty_leaf}
 pub use Rattle.sled_node.specs.Payloads.Nodes.{ReadsNode}
 pub use Rattle.sled_node.specs.Payloads.Roots.{ReadsRoots}
-pub use Rattle.sled_pagecache.proofs.Refused.{no_name, refused-is}
+pub use Rattle.sled_pagecache.proofs.Steps.Refusals.{no_name, refused-is}
 pub use Rattle.sled_pagecache.specs.Inside.PageEntry.{IsTouched, WasAccessed, capped_size}
 pub use Rattle.sled_pagecache.specs.Inside.NewPages.{HasOneMore, RefusesPage}
 pub use Rattle.sled_pagecache.specs.Inside.Appends.{Appended, MakesAppend, MakesNewPage, Puts, PutsOnNewPage, RefusesAppend}
@@ -61,7 +61,7 @@ pub use Rattle.sled_pagecache.specs.Logged.{AllById, FitsId}
 pub use Rattle.sled_pagecache.specs.Cache.{Cache, IsAway, Represents, IsResident, KnowsLog, chain_length, chain_size}
 pub use Rattle.sled_pagecache.specs.Calls.{ActOver, Acts, HasNoRoom, HasNoRoomAgain, IsBehind, IsBlamed, IsDone, IsDoneInEach, IsSameOpening, IsStep, StepOver, Steps}
 pub use Rattle.sled_pagecache.specs.Due.{due_in, due_page, is_one_blob, lies_in, pointers_of, segment_of}
-pub use Rattle.sled_pagecache.specs.Inside.Moves.{HoldsAgain, IsBlobOf, MovesOne, MovesOrNot, PutsAgain, RefusesOne, RefusesRewrite, pointers_in, reads_of}
+pub use Rattle.sled_pagecache.specs.Inside.PageMoves.{HoldsAgain, IsBlobOf, MovesOne, MovesOrNot, PutsAgain, RefusesOne, RefusesRewrite, pointers_in, reads_of}
 pub use Rattle.sled_pagecache.specs.Moves.{AccessesNamed, AttemptsMove, MovesDue, RefusesMove, is_blob_at, is_there, reads_to_move}
 pub use Rattle.sled_pagecache.specs.Inside.PageIn.{IsFoundAs, IsOnly}
 pub use Rattle.sled_pagecache.specs.Cache.{chain_at}
@@ -72,7 +72,7 @@ pub use Rattle.sled_pagecache.specs.Damage.{MeetsDamage, ReportsDamage, ReportsW
 pub use Rattle.sled_pagecache.specs.Inside.RootWrites.{AreKeptRoots, FindsRoots, JudgesRoot, KeepsRoots, WritesMap}
 pub use Rattle.sled_pagecache.specs.Inside.StickyLog.{IsCaused, IsOfLog, Went, begun_by, cache_answer, is_write_fault, is_write_fault as met_fault, mark_of}
 pub use Rattle.sled_pagecache.specs.Inside.StickyLogLaws.{HasGrown-since, IsCaused-handed_on, IsCaused-since, Went-last, Went-none, Went-then, now-Went}
-pub use Rattle.sled_pagecache.specs.Inside.TokenCheck.{IsFresh, IsRejected, Judges, answer_to}
+pub use Rattle.sled_pagecache.specs.Inside.TokenCheck.{IsFresh, IsRejected, Judges, answer_to, link_answer}
 pub use Rattle.sled_pagecache.specs.Lending.{IsGot, lent_answer as answered}
 pub use Rattle.sled_pagecache.specs.Limits.{batch_manifest_pid, chunk_length, chunk_length as fan, counter_pid, meta_pid, most_pages}
 pub use Rattle.sled_pagecache.specs.Answers.{IsTested, TestsFirst}
@@ -84,19 +84,19 @@ pub use Rattle.sled_pagecache.specs.Inside.RecentUse.{FindsPage}
 pub use Rattle.sled_pagecache.specs.Opening.{changes_of_start, fault_of, first_id, missing_pages, opened_state}
 pub use Rattle.sled_pagecache.specs.Inside.PageTable.{AreFilled, IsPageTable, at_last, has_room, is_unfilled, pages_in, view_of}
 pub use Rattle.sled_pagecache.specs.Table.{TableView}
-pub use Rattle.sled_pagecache.specs.Inside.PageEntry.{HoldsChain, IsKept, access_size, free_ids, is_resident, node_access_size, size_if, size_in, joined_size}
+pub use Rattle.sled_pagecache.specs.Inside.PageEntry.{HoldsChain, IsKept, access_size, free_ids, is_resident, node_access_size, size_if, size_in}
 pub use Rattle.sled_pagecache.specs.Infos.{place_of_freeing}
 pub use Rattle.sled_pagecache.specs.Table.{is_free}
 pub use Rattle.sled_pagecache.specs.Inside.PageIn.{BringsIn, IsNodeAt, RefusesReading, sticky_log_of}
 pub use Rattle.sled_pagecache.specs.Damage.{LeavesPages}
-pub use Rattle.sled_pagecache.specs.Inside.Eviction.{move_behind, IsPagedOut, kept_behind_eviction}
+pub use Rattle.sled_pagecache.specs.Inside.Eviction.{move_behind, IsPagedOut, content_behind_eviction}
 pub use Rattle.sled_pagecache.specs.Inside.LogCalls.{Comes, IsCutShort, LacksRoom, Proceeds, Reaches, TakesNoRoom, is_fault, refusal_in}
 pub use Rattle.sled_pagecache.specs.Logged.{AreRoots, IsProper, IsUsers, StayProper}
 pub use Rattle.sled_pagecache.specs.Inside.PageIn.{RefusesPull}
 pub use Rattle.sled_pagecache.specs.Inside.PageIn.{Follows, Leads, RefusesFirst, RefusesMessage, found_message}
 pub use Rattle.sled_pagecache.specs.Damage.{IsDamaged, IsFirstWrong, IsWrongAt, MakesNode}
 pub use Rattle.sled_pagecache.specs.Memory.{HasRead, ReadsNothing, ReadsPage, own_among}
-pub use Rattle.sled_pagecache.specs.Inside.Recovery.{AllFit, BeginsMisfit, IsRecovered, info_at, is_misfit, kept_by}
+pub use Rattle.sled_pagecache.specs.Inside.Recovery.{AllFit, BeginsMisfit, IsRecovered, info_at, is_misfit, page_content_by}
 pub use Rattle.sled_pagecache.specs.Reopening.{AreAfterPrefix, CrashReopens, HoldsCrash, ReopensTo, Started}
 pub use Rattle.sled_pagecache.specs.Inside.SequenceLaws.{IsLonger, OnlyNow, left-now, made-row, none-came, one-longer, row-none, row-one, row-then, step-stuck}
 pub use Rattle.sled_pagecache.specs.Infos.{stamps_to}
@@ -106,25 +106,24 @@ pub use Rattle.sled_pagecache.specs.Calls.{CrashLeaves}
 pub use Rattle.sled_pagecache.specs.Memory.{IsHindrance}
 pub use Rattle.sled_pagecache.specs.State.{StampedPage, State, contents_of, free_token, greatest_free, is_free as is_free_content, later_token, page, page_at, stamps_of, with_page}
 pub use Rattle.sled_pagecache.specs.Step.{AddsPage, TidiesBehind, TidiesIfSwapped, Due, Moves, MovesContent, MovesPage, Tidies, WritesAgain, Allocates, Closes, Does, Fails, Finds, FindsContent, FindsRoot, Flushes, Frees, Generates, Gets, GetsIdgen, GetsMeta, HoldsCounter, HoldsRoots, IsCorruption, IsCounterAnd, IsGone, IsHindered, IsRefused, Links, LinksContent, LinksNode, Outcome, Pins, PutsCounter, PutsRoots, Reads, Replaces, ReusesPage, RootSwap, SetsRoot, Sizes, Swapped, Swaps, SwapsContent, SwapsPage, SwapsRoot, TellsRoot, UnlessFaulty, UnlessReserved, UnlessStale, with_batch_closed, interval_start, is_reserved, outcome, no_change, with_next_id}
-pub use Rattle.sled_pagecache.specs.Inside.PageWrites.{CanPut, IsLinked, IsRaised, RefusesLink, RefusesSwap, WritesMessage, Wrote, content_of, joined_update, roots_in, update_of}
-pub use Rattle.sled_pagecache.specs.Inside.Infos.{joined_infos}
+pub use Rattle.sled_pagecache.specs.Inside.PageWrites.{CanPut, IsLinked, IsRaised, RefusesLink, RefusesSwap, WritesMessage, Wrote, content_of, roots_in, update_of}
 pub use Rattle.sled_pagecache.specs.Answers.{linked_length}
 pub use Rattle.sled_pagecache.specs.Inside.Invariant.{AreOwn, IsBeside, IsConsistent, IsCounter, IsFreeOrNode, IsOwnAt, IsRoots, nodes_in, resident_in, stamps_in}
 pub use Rattle.sled_pagecache.specs.State.{IsAnswered, Token, pid_of, stamp_of, token}
 pub use Rattle.sled_pagecache.specs.Inside.RecentUse.{AccessesNode, IsListedAt}
-pub use Rattle.sled_pagecache.proofs.Touched.{AllStay, FindsNode, LosesAtMost, TakesNode, TakesPage}
+pub use Rattle.sled_pagecache.proofs.Memory.Accesses.{AllStay, FindsNode, LosesAtMost, TakesNode, TakesPage}
 pub use Rattle.sled_pagecache.specs.declared.pagecache.memory.accesses.Accesses.{Accesses}
 pub use Rattle.sled_pagecache.specs.declared.pagecache.handles.call.Answer.TheVariants.{Allocated, Amplified, Cancelled, Flushed, FoundRoot, Freed, Generated, Got, GotIdgen, GotMeta, Linked, Pinned, Replaced, RootSwapped, Sealed, Sized, TookSnapshot, AttemptedGc}
 pub use Rattle.sled_pagecache.specs.declared.pagecache.handles.call.Answer.{Answer}
 pub use Rattle.sled_pagecache.specs.declared.pagecache.handles.call.Call.TheVariants.{Allocate, CasRoot, Flush, GenerateId, Get, GetIdgen, GetMeta, MetaPidForName, Replace, SizeOnDisk, SpaceAmplification, TakeFuzzySnapshot, AttemptGc}
-pub use Rattle.sled_pagecache.specs.declared.pagecache.table.page.CacheInfo.{CacheInfo}
+pub use Rattle.sled_pagecache.specs.declared.pagecache.table.page_entry.CacheInfo.{CacheInfo}
 pub use Rattle.sled_pagecache.specs.declared.pagecache.handles.call.Call.{Call}
 pub use Rattle.sled_pagecache.specs.declared.pagecache.handles.config.Config.{Config}
 pub use Rattle.sled_pagecache.specs.declared.pagecache.write.sticky_log.StickyLog.{StickyLog}
-pub use Rattle.sled_pagecache.specs.declared.pagecache.write.judge.Rejection.TheVariants.{Gone, Refused, Stale}
-pub use Rattle.sled_pagecache.specs.declared.pagecache.write.judge.Rejection.{Rejection}
-pub use Rattle.sled_pagecache.specs.declared.pagecache.table.page.Kept.{Kept}
-pub use Rattle.sled_pagecache.specs.declared.pagecache.table.page.Page.{Page, Page as KeptPage}
+pub use Rattle.sled_pagecache.specs.declared.pagecache.write.token_check.Rejection.TheVariants.{Gone, Refused, Stale}
+pub use Rattle.sled_pagecache.specs.declared.pagecache.write.token_check.Rejection.{Rejection}
+pub use Rattle.sled_pagecache.specs.declared.pagecache.table.page_entry.PageContent.{PageContent}
+pub use Rattle.sled_pagecache.specs.declared.pagecache.table.page_entry.Page.{Page, Page as KeptPage}
 pub use Rattle.sled_pagecache.specs.declared.pagecache.memory.reading.Found.{Found}
 pub use Rattle.sled_pagecache.specs.declared.pagecache.handles.view.NodeView.{NodeView}
 pub use Rattle.std.proofs.Common.{Bool, Bor, Equal, Err, Greater, Less, List, None, Ok, Option, Result, SFits, Some, [], add-one, ap, arith, below_more, cond, drop, eq-eqb, false, get_or, inl, inr, is_some, length, ltb, map, nat_lt, not, of_z, pos, refl, rules, set, slice_get, slice_index_or, slice_set, subst, suc, sym, take, to_z, true, vec_capacity, vec_len, w64, zero, zero-add, ℕ, ℤ, ⊎_elim, ◌%◌, ◌&&◌, ◌*◌, ◌++◌, ◌+◌, ◌-◌, ◌/◌, ◌<◌, ◌==◌, ◌^◌, ◌||◌, ◌∙◌, ◌∷◌, ◌≡◌, ◌≢◌, ◌≤◌, ◌⊎◌}
@@ -161,7 +160,7 @@ pub use Rattle.std.proofs.Math.Nat.{add-mul-div_right, div-mul-le_self, lt-div-m
 pub use Rattle.sled_pagecache.specs.Answers.{GivesId, IsBelowCounter, IsCovered}
 pub use Rattle.std.specs.BTreeSet.{insert_key}
 pub use Rattle.std.specs.Ordering.{nat_cmp}
-pub use Rattle.sled_pagecache.specs.Inside.Eviction.{AreOut, Evicts, IsOutAt, IsSettled, allocation_behind, answer_behind, cache_of, cache_of as view, left_pages, lost_by, lost_pages}
+pub use Rattle.sled_pagecache.specs.Inside.Eviction.{AreOut, Evicts, IsOutAt, IsSettled, allocation_behind, answer_behind, cache_of, cache_of as view, left_pages, link_behind, lost_by, lost_pages}
 pub use Rattle.sled_node.specs.Meta.{IsRootMap, changed_roots, root_of, with_root, without_root}
 pub use Rattle.sled_pagecache.specs.Inside.CounterPage.{IsCounterIn, KeepsCounter}
 pub use Rattle.std.specs.BTreeMap.{is_at}
@@ -169,5 +168,5 @@ pub use Rattle.std.specs.Set.{remove_key}
 pub use Rattle.sled_pagecache.specs.declared.pagecache.handles.shape.Kind.{Kind}
 pub use Rattle.sled_pagecache.specs.declared.pagecache.handles.shape.PageShape.{PageShape}
 pub use Rattle.sled_pagecache.specs.Trees.{EndsSwap, FindsTree, GoesOnOver, GoesOnWith, IsKnown, IsTreeOpened, MadeCalls, MakesTree, NamesRoot, OpensTree, PutsIndex, TellsTree, Touches, index_over, stamps_after, stamps_then}
-pub use Rattle.sled_pagecache.specs.Inside.Trees.{GoesOn, Looks}
-pub use Rattle.sled_pagecache.specs.Inside.Shapes.{shape_of_kept}
+pub use Rattle.sled_pagecache.specs.Inside.TreeOpenings.{GoesOn, Looks}
+pub use Rattle.sled_pagecache.specs.Inside.PageKinds.{shape_of_entry}

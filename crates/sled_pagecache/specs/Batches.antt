@@ -16,9 +16,9 @@ use Rattle.sled_pagecache.specs.declared.pagecache.handles.call.Call.{Call}
 use Rattle.sled_pagecache.specs.declared.pagecache.handles.call.Call.TheVariants.{Pin, Seal, Cancel}
 use Rattle.std.specs.Borrow.{Fml, RattleType, MutBor, RestsIfErr, Lends}
 use mir.Syntax.{named}
-use Rattle.sled_pagecache.specs.declared.pagecache.cache.guard.RecoveryGuard.{RecoveryGuard}
-use Rattle.sled_pagecache.specs.contracts.pagecache.cache.PageCache as cache
-use Rattle.sled_pagecache.specs.contracts.pagecache.cache.guard.RecoveryGuard as guard
+use Rattle.sled_pagecache.specs.declared.pagecache.calls.guard.RecoveryGuard.{RecoveryGuard}
+use Rattle.sled_pagecache.specs.contracts.pagecache.calls.PageCache as cache
+use Rattle.sled_pagecache.specs.contracts.pagecache.calls.guard.RecoveryGuard as guard
 use Rattle.std.specs.List.{AllByRecursion}
 use Rattle.sled_log.specs.Contents.{Content}
 use Rattle.sled_pagecache.specs.Logged.{Logged}
@@ -28,7 +28,7 @@ use Rattle.sled_pagecache.specs.State.{State, contents_of}
 use Rattle.sled_pagecache.specs.Step.{Outcome}
 
 module _ {L : Type 0} (g : Ghosts L) where
-  -- A batch was opened, unless one was open or the log refused it. No page changes, in memory neither.
+  -- A batch was opened, unless one was open or the log refused it. No page changes, and the same pages are in memory.
   pub record OpensBatch (old : Cache L) (result : Result (Unit {0}) Error) (new : Cache L) : Type 0 where
     pub step : Steps g old Pin (Pinned result) new
     pub blame : IsBlamed g old new result
@@ -41,8 +41,8 @@ module _ {L : Type 0} (g : Ghosts L) where
     pub unread : ReadsNothing g old new
     pub same : KeepsMemory old new
 
-  -- The batch was closed, whatever the answer. Only a write fault is answered, and with one kept the log isn't called. No page
-  -- changes, in memory neither.
+  -- The batch was closed, whatever was returned. The only error is a write error, and after an earlier one the log isn't called. No page
+  -- changes, and the same pages are in memory.
   pub record ClosesBatch (call : Call) (said : Result (Unit {0}) Error → Answer) (old : Cache L) (result : Result (Unit {0}) Error) (new : Cache L) : Type 0 where
     pub step : Steps g old call (said result) new
     pub blame : IsBlamed g old new result
@@ -64,17 +64,17 @@ module _ {L : Type 0} (g : Ghosts L) where
 abbrev pub cache_lent : {L : Type 0} → RecoveryGuard L → MutBor (Cache L)
 cache_lent guard = guard.cache
 
--- what a refused call leaves
+-- what a call that failed leaves
 abbrev pub RefusesBatch : {L T : Type 0} → Ghosts L → Cache L → Result T Error → Cache L → Type 0
 RefusesBatch g old (Ok done) new = ⊤
 RefusesBatch g old (Err e) new = OpensBatch g old (Err e) new
 
 module _ (L : RattleType) (g : Ghosts L.Denot) where
-  -- where no batch was opened, the cache rests as it was refused
+  -- if no batch was opened, the cache is as the failed call leaves it
   abbrev pub RestsIfRefused : MutBor (Cache L.Denot) → Result (RecoveryGuard L.Denot) Error → Fml
   RestsIfRefused c result = RestsIfErr (cache.the_row L g) c (λ guard. (cache_lent guard).ghost_name) result (λ last. RefusesBatch g c.now result last)
 
-  -- the guard lends its cache, and holds it as it comes back
+  -- the guard returns a reference to its cache, and holds the cache as the borrower leaves it
   abbrev pub LendsCache : MutBor (RecoveryGuard L.Denot) → MutBor (Cache L.Denot) → Fml
   LendsCache it result = Lends (guard.the_row (record { mir = named 1; lft = [] }) L g) (cache.the_row L g) it result (λ last. record it.now { cache = record it.now.cache { now = last } })
 
@@ -84,11 +84,11 @@ ClosesNone Seal = ⊥
 ClosesNone Cancel = ⊥
 ClosesNone other = ⊤
 
--- The pages have nothing of what came since the log held this: they are those after a prefix of what was pending then.
+-- The pages have nothing that was added after the log held this: they are those after a prefix of what was pending then.
 abbrev pub AreWithout : Logged → List Content → Type 0
 AreWithout held contents = AreAfterPrefix held [] contents
 
--- they are as the state has them
+-- they are the pages of the state
 abbrev pub AreThoseOf : State → List Content → Type 0
 AreThoseOf s contents = contents ≡ contents_of s
 
@@ -104,8 +104,8 @@ module _ {L : Type 0} (g : Ghosts L) where
     pub row : StepInRow g pinned calls new
     pub inside : AllByRecursion (λ made. ClosesNone made.0) calls
 
-  -- The calls are steps to another state, in which the cache is. A crash since the first of them reopens to pages that are so, beside what
-  -- they write and that state.
+  -- The calls are steps that lead to a state of the new cache. A crash since the first of them reopens to pages of which `Are` holds, given
+  -- what the calls write and that state.
   pub record Stand (old : Cache L) (calls : List (Call × Answer)) (new : Cache L) (held : Logged) (s : State) (Are : List (Event Update) → State → List Content → Type 0) : Type 0 where
     pub held_then : Logged
     pub t : State
@@ -114,10 +114,10 @@ module _ {L : Type 0} (g : Ghosts L) where
     pub steps : AreSteps g (Steps g) old s calls outs new t
     pub crash : CrashReopens g new.log (g.moment old.log) (Are (changes_of outs) t)
 
-  -- The pages have nothing of the calls, or are as the calls leave them: whole, or not at all.
+  -- All or nothing: the pages have nothing of the calls, or are as the calls leave them.
   abbrev pub StandsWhole : Cache L → List (Call × Answer) → Cache L → Logged → State → Type 0
   StandsWhole old calls new held s = Stand old calls new held s (λ changes t contents. AreWithout held contents ⊎ AreThoseOf t contents)
 
-  -- They are those after a prefix of what the calls write.
+  -- The pages are those after a prefix of what the calls write.
   abbrev pub StandsInPart : Cache L → List (Call × Answer) → Cache L → Logged → State → Type 0
   StandsInPart old calls new held s = Stand old calls new held s (λ changes t. AreAfterPrefix held changes)

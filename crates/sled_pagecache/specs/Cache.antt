@@ -14,9 +14,9 @@ use Rattle.sled_pagecache.specs.declared.pagecache.handles.config.Config.{Config
 abbrev pub chain_at : log.LogState Entry → ℕ → Chain
 chain_at state pid = slice_index_or (log.now effect_of_entry state) pid []
 
--- The stamps of the pages, which of them lie in memory, how much of the log the messages of each page take whose node does, the
--- next generated id, whether a batch is open, whether a write fault is kept, the settings, whether both system pages were found in
--- the log, the pages by their recent use, and the log.
+-- The stamps of the pages, which of them are in memory, how many bytes of the log the messages of each page take whose node is in memory,
+-- the next generated id, whether a batch is open, whether a write error was met, the settings, whether both system pages were found in the
+-- log, the pages by their recent use, and the log.
 pub record Cache (L : Type 0) : Type 0 where
   pub stamps : List ℕ
   pub resident : List Bool
@@ -29,7 +29,7 @@ pub record Cache (L : Type 0) : Type 0 where
   pub lru : Recency
   pub log : L
 
--- the page lies in memory, or doesn't; a free one does
+-- the page is in memory, or isn't; a free one is
 abbrev pub IsResident : {L : Type 0} → Cache L → ℕ → Type 0
 IsResident cache pid = slice_get cache.resident pid ≡ Some true
 
@@ -41,19 +41,19 @@ module _ {L : Type 0} (state : L → log.LogState Entry) where
   abbrev pub chain_length : Cache L → ℕ → ℕ
   chain_length cache pid = length (chain_at (state cache.log) pid)
 
-  -- how much of the log they take together
+  -- how many bytes of the log they take together
   abbrev pub chain_size : Cache L → ℕ → ℕ
   chain_size cache pid = sum_by (λ entry. entry.place.log_size) (chain_at (state cache.log) pid)
 
 module _ {L : Type 0} (g : Ghosts L) where
-  -- what is known of the log, which holds that
+  -- what is known of a log that holds this
   pub record KnowsLog (cache : Cache L) (held : Logged) (s : State) : Type 0 where
     pub usable : (g.state cache.log).usable ≡ true
     pub logged : IsLogged (log.unplaced_state (g.state cache.log)) held
     pub contents : contents_of s ≡ now held
     pub opened : s.batch ≡ is_open held.pending
 
-  -- The cache is in this state, and its log, which tells its bytes, holds that. After a write error nothing is known of the log.
+  -- The cache is in this state, and its log, which tells its bytes, holds this. After a write error nothing is known of the log.
   pub record Represents (cache : Cache L) (held : Logged) (s : State) : Type 0 where
     pub tells : g.tells
     pub stamps : stamps_of s ≡ cache.stamps

@@ -21,7 +21,7 @@ use Rattle.sled_pagecache.specs.Step.{Act, Outcome, Step}
 use Rattle.sled_pagecache.specs.declared.pagecache.handles.call.Answer.{Answer}
 use Rattle.sled_pagecache.specs.declared.pagecache.handles.call.Call.{Call}
 
--- what stays while a cache is open: its settings, and whether the system pages were found
+-- what stays the same while a cache is open: its settings, and whether the system pages were found
 pub record IsSameOpening {L : Type 0} (old new : Cache L) : Type 0 where
   pub config : new.config ≡ old.config
   pub recovered : new.recovered ≡ old.recovered
@@ -34,16 +34,16 @@ module _ {L : Type 0} (g : Ghosts L) where
   HasNoRoom log Seal = ⊥
   HasNoRoom log Cancel = ⊥
 
-  -- The log had no room for what was to be written again of a page: for the content, or for the message that names its blob.
+  -- The log had no room for writing a page again: for its content, or for the message that names its blob.
   abbrev pub HasNoRoomAgain : L → ℕ → Content → Type 0
   HasNoRoomAgain log pid content = HasNoRoom log (Change pid (Put content)) ⊎ g.is_full log (length (message_at (now effect_of_entry (g.state log)) pid).payload)
 
-  -- an act of the machine, over the log of the cache
+  -- an act of the machine over the log of the cache: a step without the move that may follow a swap
   abbrev pub ActOver : Cache L → State → Call → Answer → Outcome → Type 0
   ActOver cache s call answer out =
       Act (due_in g cache.config) HasNoRoomAgain (chain_length g.state cache) (HasNoRoom cache.log) cache.config.idgen_persist_interval cache.config.segment_size cache.log s call answer out
 
-  -- These changes were added to the one log, in whatever messages, and then it was the other.
+  -- The new log is the old one after these changes were added, in whatever messages.
   pub record IsBehind (old : L) (changes : List (Event Update)) (new : L) : Type 0 where
     pub held : Logged
     pub held_then : Logged
@@ -56,12 +56,13 @@ module _ {L : Type 0} (g : Ghosts L) where
   StepOver cache s call answer out =
       Step (due_in g cache.config) HasNoRoomAgain (chain_length g.state cache) (HasNoRoom cache.log) cache.config.idgen_persist_interval cache.config.segment_size cache.log (IsBehind cache.log) s call answer out
 
-  -- A crash at any moment of what led from the one log to the other leaves what was held and a prefix of the changes that splits no batch.
+  -- A crash at any moment between the old log and the new one leaves what was held and a prefix of the changes, which splits no batch.
   abbrev pub CrashLeaves : L → Logged → List (Event Update) → L → Type 0
   CrashLeaves old held changes new = log.CrashesSinceLeave g.moment g.left_since old new (IsLeft held changes)
 
-  -- From this state, over a log that holds this, what was done is so. What it writes is added to the log, and a crash at any
-  -- moment of it leaves what the log held and a prefix of that which splits no batch. Behind a write error the log isn't called.
+  -- From this state, over a log that holds this, the relation holds of what was done. What it writes is added to the log, and a crash at
+  -- any moment of it leaves what the log held and a prefix of what it writes, which splits no batch. After a write error the log isn't
+  -- called.
   pub record IsDone (Does : State → Outcome → Type 0) (old new : Cache L) (held : Logged) (s : State) : Type 0 where
     pub out : Outcome
     pub step : Does s out
@@ -71,7 +72,7 @@ module _ {L : Type 0} (g : Ghosts L) where
     pub crash : s.fault ≡ false → CrashLeaves old.log held out.changes new.log
     pub stuck : s.fault ≡ true → new.log ≡ old.log
 
-  -- It is so in whatever state the cache is.
+  -- This holds in every state of the cache.
   pub record IsDoneInEach (Does : State → Outcome → Type 0) (old new : Cache L) : Type 0 where
     pub opening : IsSameOpening old new
     pub from_each : (held : Logged) (s : State) → Represents g old held s → IsDone Does old new held s
@@ -87,7 +88,7 @@ module _ {L : Type 0} (g : Ghosts L) where
   abbrev pub Acts : Cache L → Call → Answer → Cache L → Type 0
   Acts old call answer new = IsDoneInEach (λ s out. ActOver old s call answer out) old new
 
--- A fault is reported only where its count grew in the call, or a write fault was kept.
+-- A fault is reported only if its count grew in the call, or if a write error was met before.
 pub record IsBlamed {L T : Type 0} (g : Ghosts L) (old new : Cache L) (result : Result T Error) : Type 0 where
   pub read : IsErrOf result (Io Read) → HasGrown (g.counts old.log).failed_reads (g.counts new.log).failed_reads
   pub write : IsErrOf result (Io Write) → old.fault ≡ false → HasGrown (g.counts old.log).write_faults (g.counts new.log).write_faults

@@ -1,4 +1,4 @@
--- What is answered for a damaged page.
+-- What is returned for a damaged page.
 use Rattle.std.specs.Prelude.{◌≤◌, true, ◌≡◌, ℕ, List, [], ◌∷◌, ◌++◌, ◌⊎◌, map, false, Some, ⊤, Result}
 use Rattle.sled_base.specs.declared.types.DiskPtr.{DiskPtr}
 use Rattle.sled_base.specs.declared.types.Refusal.TheVariants.{Corruption, OutOfMemory}
@@ -21,8 +21,8 @@ use Rattle.sled_base.specs.declared.types.Error.TheVariants.{Io, Corruption, Out
 abbrev pub MakesNode : Messages → Type 0
 MakesNode unplaced = (node : WholeNode) × Makes unplaced (Node node)
 
--- The message kept there is the first that doesn't belong where it stands: those before it make a node, where there are any,
--- and with it they make none.
+-- The message stored there is the first one that is wrong at its place: those before it make a node, if there are any, and with it they
+-- make none.
 pub record IsFirstWrong {M : Type 0} (message : M → Message) (kept_at : M → DiskPtr) (messages : List M) (pointer : DiskPtr) : Type 0 where
   pub before : List M
   pub first : M
@@ -32,16 +32,16 @@ pub record IsFirstWrong {M : Type 0} (message : M → Message) (kept_at : M → 
   pub sound : (before ≡ []) ⊎ MakesNode (map message before)
   pub wrong : ¬ MakesNode (map message (before ++ first ∷ []))
 
--- the page has a content, and its messages make no node
+-- the page has content, and its messages make no node
 abbrev pub IsDamaged : Chain → Type 0
 IsDamaged chain = (is_empty effect_of_entry chain ≡ false) × ¬ MakesNode (messages_of chain)
 
--- it is the first wrong one of a page's chain, or of what was found of it
+-- the message stored there is the first wrong one of a page's chain
 abbrev pub IsWrongAt : Chain → DiskPtr → Type 0
 IsWrongAt chain pointer = IsFirstWrong (λ entry. entry.message) (λ entry. entry.place.pointer) chain pointer
 
--- No page changes, and nothing is appended to the log. Unless a write fault is kept, the log may be called, and a batch is open as it
--- was. Where the device tells its bytes, a crash leaves what one before would have left, and the chains are the same.
+-- No page changes, and nothing is appended to the log. Unless there was a write error, the log may be called, and a batch is open if it was
+-- before. If the device tells its bytes, a crash leaves what a crash before could have left, and the chains are the same.
 pub record LeavesPages {L : Type 0} (g : Ghosts L) (old new : Cache L) : Type 0 where
   pub opening : IsSameOpening old new
   pub stamps : new.stamps ≡ old.stamps
@@ -55,15 +55,15 @@ pub record LeavesPages {L : Type 0} (g : Ghosts L) (old new : Cache L) : Type 0 
   pub crash : g.tells → log.CrashesSinceLeave g.moment g.left_since old.log new.log (log.IsLeft effect_of (log.unplaced_state (g.state old.log)) [])
   pub same : g.tells → new.fault ≡ false → log.now effect_of_entry (g.state new.log) ≡ log.now effect_of_entry (g.state old.log)
 
--- the first wrong message of the page, unless memory ran out or the device failed
+-- the error is the first wrong message of the page, unless memory ran out or the device failed
 abbrev pub ReportsWrong : Chain → Error → Type 0
 ReportsWrong chain OutOfMemory = ⊤
 ReportsWrong chain (Io device) = ⊤
 ReportsWrong chain (Corruption (Some pointer)) = IsWrongAt chain pointer
--- nothing else is answered; a page whose first message frees it is free
+-- no other error is returned; a page whose first message frees it is free
 ReportsWrong chain error = ⊥
 
--- the same of one of several pages, of which those are judged that aren't the cache's own
+-- the same for one of several pages, of which only those count that aren't the cache's own
 abbrev pub ReportsSomeWrong : (ℕ → Chain) → Error → Type 0
 ReportsSomeWrong chain OutOfMemory = ⊤
 ReportsSomeWrong chain (Io device) = ⊤
@@ -71,14 +71,14 @@ ReportsSomeWrong chain (Corruption (Some pointer)) = (pid : ℕ) × (is_reserved
 ReportsSomeWrong chain error = ⊥
 
 module _ {L : Type 0} (g : Ghosts L) (old : Cache L) (pid : ℕ) where
-  -- The page, which isn't the cache's own, has a content, and its messages make no node.
+  -- The page isn't the cache's own and has content, and its messages make no node.
   pub record MeetsDamage : Type 0 where
     pub tells : g.tells
     pub ready : old.fault ≡ false
     pub behind : is_reserved pid ≡ false
     pub damaged : IsDamaged (chain_at (g.state old.log) pid)
 
-  -- The page is reported by its first wrong message. No page changes, and nothing is added to the log.
+  -- The first wrong message of the page is reported. No page changes, and nothing is added to the log.
   pub record ReportsDamage {T : Type 0} (result : Result T Error) (new : Cache L) : Type 0 where
     pub reported : IsErrAnd result (ReportsWrong (chain_at (g.state old.log) pid))
     pub left : LeavesPages g old new

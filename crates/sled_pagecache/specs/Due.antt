@@ -14,15 +14,15 @@ use Rattle.sled_pagecache.specs.declared.pagecache.handles.config.Config.{Config
 abbrev pub pointers_of : Chain → List DiskPtr
 pointers_of chain = map (λ entry. entry.place.pointer) chain
 
--- in which segment of a log a place lies
+-- the segment of a log that a place is in
 abbrev pub segment_of : Config → ℕ → ℕ
 segment_of config place = place / config.segment_size
 
--- whether one of the messages lies in the segment of that place
+-- whether one of the messages is in the segment of that place
 abbrev pub lies_in : Config → ℕ → List DiskPtr → Bool
 lies_in config place pointers = list_any (λ pointer. segment_of config (offset_of pointer) == segment_of config place) pointers
 
--- The page of the message that is due, if one of the page's messages lies in that segment.
+-- The page of the message that is due. If none of the page's messages is in that segment any more, the message is outdated.
 abbrev pub due_page : Config → Option (ℕ × ℕ) → List Chain → Due
 due_page config None chains = Nothing
 due_page config (Some (pid, place)) chains = if lies_in config place (pointers_of (slice_index_or chains pid [])) then Page pid else Outdated
@@ -30,7 +30,7 @@ due_page config (Some (pid, place)) chains = if lies_in config place (pointers_o
 abbrev pub due_in : {L : Type 0} → Ghosts L → Config → L → Due
 due_in g config log = due_page config (g.due log) (now effect_of_entry (g.state log))
 
--- whether a page is one message, which is kept as a blob
+-- whether a page is a single message, which is stored as a blob
 abbrev pub is_one_blob : List DiskPtr → Bool
 is_one_blob (Blob place blob ∷ []) = true
 is_one_blob pointers = false

@@ -1,4 +1,4 @@
--- What one has to believe, in reading order; last what only proofs need.
+-- The definitions that a reader has to trust, in reading order. The last module is only for proofs.
 pub mod Limits
 pub mod State
 pub mod Sizes

@@ -12,7 +12,7 @@ counter_pid = 1
 abbrev pub batch_manifest_pid : ℕ
 batch_manifest_pid = 2 ^ 64 - 1 - 666
 
--- at most so many messages make a page
+-- the greatest number of messages that make a page
 abbrev pub most_messages : ℕ
 most_messages = 10
 
@@ -23,7 +23,7 @@ pid_bits = 37
 abbrev pub most_pages : ℕ
 most_pages = 2 ^ pid_bits
 
--- a chunk of the table of pages keeps at most 2 to this power pages
+-- a chunk of the table of pages holds at most 2 to this power pages
 abbrev pub chunk_bits : ℕ
 chunk_bits = 18
 

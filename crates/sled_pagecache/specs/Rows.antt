@@ -23,16 +23,17 @@ module _ {L : Type 0} (g : Ghosts L) where
   abbrev pub IsInState : Cache L → State → Type 0
   IsInState cache s = (held : Logged) × Represents g cache held s
 
-  -- The calls were made one after another, each of the very cache that the one before it left; `Makes` says what is known of one. Each is a
-  -- step over that cache, from the state that it is in, with the outcome that stands at its place, and leaves a cache in the state of that.
+  -- The calls were made one after another, each of exactly the cache that the call before left; `Makes` is what is known of one call. Each
+  -- is a step over that cache, from the state that it is in, with the outcome at the same place, and leaves a cache in the state of that
+  -- outcome.
   abbrev pub AreSteps : (Cache L → Call → Answer → Cache L → Type 0) → Cache L → State → List (Call × Answer) → List Outcome → Cache L → State → Type 0
   AreSteps Makes old s [] [] new t = (new ≡ old) × (t ≡ s)
   AreSteps Makes old s (made ∷ calls) (out ∷ outs) new t =
       (mid : Cache L) × Makes old made.0 made.1 mid × StepOver g old s made.0 made.1 out × IsInState mid out.state × AreSteps Makes mid out.state calls outs new t
   AreSteps Makes old s calls outs new t = ⊥
 
-  -- From this state, over a log that holds this, the calls are steps to another state. What they write is added to the log, and
-  -- a crash at any moment of them leaves what the log held and a prefix of that which splits no batch.
+  -- From this state, over a log that holds this, the calls are steps to another state. What they write is added to the log, and a crash at
+  -- any moment during them leaves what the log held and a prefix of what they write, which splits no batch.
   pub record IsRow (old : Cache L) (calls : List (Call × Answer)) (new : Cache L) (held : Logged) (s : State) : Type 0 where
     pub held_then : Logged
     pub t : State
@@ -43,13 +44,14 @@ module _ {L : Type 0} (g : Ghosts L) where
     pub crash : s.fault ≡ false → CrashLeaves g old.log held (changes_of outs) new.log
     pub stuck : s.fault ≡ true → new.log ≡ old.log
 
-  -- The calls are steps in a row, in whatever state the cache is.
+  -- The calls are steps in a row, from every state of the cache.
   pub record StepInRow (old : Cache L) (calls : List (Call × Answer)) (new : Cache L) : Type 0 where
     pub opening : IsSameOpening old new
     pub from_each : (held : Logged) (s : State) → Represents g old held s → IsRow old calls new held s
 
-  -- A flush that was made reports how many bytes were to be written, and nothing is pending behind it. Nothing is behind an id either,
-  -- unless that only took the next number. A size is that of the log, and a snapshot says how far that is durable and which chains it has.
+  -- A flush that returned Ok reports how many bytes were to be written, and after it nothing is pending. Nothing is pending after an id
+  -- either, unless that only took the next number. A size is that of the log, and a snapshot says how far the log is durable and which
+  -- chains it has.
   abbrev pub ReportsBytes : Cache L → Answer → Cache L → Type 0
   ReportsBytes old (Flushed (Ok written)) new = (written ≡ g.to_write old.log) × ((g.state new.log).pending ≡ [])
   ReportsBytes old (Generated (Ok id)) new = ((g.state new.log).pending ≡ []) ⊎ (new ≡ record old { next = old.next + 1 })
@@ -58,7 +60,7 @@ module _ {L : Type 0} (g : Ghosts L) where
   ReportsBytes old (TookSnapshot (Ok snapshot)) new = IsSnapshot g old snapshot
   ReportsBytes old answer new = ⊤
 
-  -- A fault is reported only where one was met. The size of a log and a snapshot ask no device.
+  -- A fault is reported only if there was one. The size of a log and a snapshot don't call the device.
   abbrev pub ReportsFaults : Cache L → Answer → Cache L → Type 0
   ReportsFaults old (Allocated result) new = IsBlamed g old new result
   ReportsFaults old (Got result) new = IsBlamed g old new result
@@ -79,12 +81,12 @@ module _ {L : Type 0} (g : Ghosts L) where
   ReportsFaults old (Cancelled result) new = IsBlamed g old new result
   ReportsFaults old (AttemptedGc result) new = IsBlamed g old new result
 
-  -- A generated id that was answered is covered by the counter that is durable.
+  -- A generated id that was returned is covered by the durable counter.
   abbrev pub CoversId : Answer → Cache L → Type 0
   CoversId (Generated (Ok id)) new = IsCovered g new id
   CoversId answer new = ⊤
 
-  -- What is known of an answer over any log: what it leaves of the stamps, of the batch and of a write fault.
+  -- What is known of an answer over any log: what the call leaves of the stamps, of the batch and of a write error.
   abbrev pub KeepsBehind : Cache L → Answer → Cache L → Type 0
   KeepsBehind old (Allocated result) new = Keeps old new result (λ made. stamps_with old.stamps made.1)
   KeepsBehind old (Got result) new = Keeps old new result (λ _. old.stamps)
@@ -105,7 +107,7 @@ module _ {L : Type 0} (g : Ghosts L) where
   KeepsBehind old (Cancelled result) new = KeepsStamps old new result × (new.batch ≡ false)
   KeepsBehind old (AttemptedGc result) new = Keeps old new result (λ _. old.stamps)
 
-  -- the call was made of a cache: it is a step, and what its answer reports of the log is so
+  -- the call was made of a cache: it is a step, and what its answer reports of the log is true
   pub record IsMade (old : Cache L) (call : Call) (answer : Answer) (new : Cache L) : Type 0 where
     pub step : Steps g old call answer new
     pub bytes : ReportsBytes old answer new
@@ -113,7 +115,7 @@ module _ {L : Type 0} (g : Ghosts L) where
     pub covered : CoversId answer new
     pub keeps : KeepsBehind old answer new
 
-  -- the calls were made one after another, each of the cache that the one before it left
+  -- the calls were made one after another, each of the cache that the call before left
   abbrev pub AreMade : Cache L → List (Call × Answer) → Cache L → Type 0
   AreMade old [] new = new ≡ old
   AreMade old (made ∷ calls) new = (mid : Cache L) × IsMade old made.0 made.1 mid × AreMade mid calls new

@@ -6,11 +6,12 @@ use Rattle.sled_pagecache.specs.Cache.{Cache, Represents}
 use Rattle.sled_pagecache.specs.Logged.{Logged}
 use Rattle.sled_pagecache.specs.State.{State}
 
--- It stays in the state that it is in, whichever that is, and its log holds what it held.
+-- The cache stays in its state, whichever that is, and its log holds what it held.
 abbrev pub StaysAsItIs : {L : Type 0} → Ghosts L → Cache L → Cache L → Type 0
 StaysAsItIs g old new = (held : Logged) (s : State) → Represents g old held s → Represents g new held s
 
--- It is the same but for its log, which stays in its state: so what its caller does for the log between two calls leaves it.
+-- The cache is the same except for its log, which stays in its state: so what its caller does for the log between two calls doesn't change
+-- it.
 pub record IsServed {L : Type 0} (g : Ghosts L) (old new : Cache L) : Type 0 where
   pub same : new ≡ record old { log = new.log }
   pub stays : StaysALog g old.log new.log

@@ -10,13 +10,13 @@ use Rattle.sled_pagecache.specs.declared.pagecache.handles.shape.Kind.{Kind}
 use Rattle.sled_pagecache.specs.declared.pagecache.handles.shape.Kind.TheVariants as kinds
 use Rattle.sled_pagecache.specs.declared.pagecache.handles.shape.PageShape.{PageShape}
 
--- the stamp and the kind of each page, the next generated id, and whether a write fault is kept
+-- the stamp and the kind of each page, the next generated id, and whether there was a write error
 pub record Shape : Type 0 where
   pub pages : List PageShape
   pub next : ℕ
   pub fault : Bool
 
--- Whether a damaged page could be read as a node isn't known before it is read.
+-- The kind of a content. Only reading a page shows whether it is damaged, so a damaged one counts as a node.
 abbrev pub kind_of : Content → Kind
 kind_of contents.Free = kinds.Free
 kind_of (contents.Counter n) = kinds.Counter
@@ -30,15 +30,15 @@ shape_of_page page = record { stamp = page.stamp; kind = kind_of page.content }
 abbrev pub shape_of : State → Shape
 shape_of s = record { pages = map shape_of_page s.pages; next = s.next; fault = s.fault }
 
--- What a page is, by whether it lies in memory and whether a node of it does. The cache's own pages come first, and another one is free if
--- it lies in memory without a node.
+-- The kind of a page, by whether it is in memory and whether it has a node there. The cache's own pages come first. Any other page is free
+-- if it is in memory without a node.
 abbrev pub kind_at : ℕ → Option Bool → Option (Option ℕ) → Kind
 kind_at zero _ _ = kinds.Roots
 kind_at (suc zero) _ _ = kinds.Counter
 kind_at (suc (suc pid)) (Some true) (Some None) = kinds.Free
 kind_at (suc (suc pid)) _ _ = kinds.Node
 
--- The cache has this shape. In a state behind a write error nothing is known of what its pages hold.
+-- The cache has this shape. After a write error nothing is known of what its pages hold.
 pub record Shows {L : Type 0} (g : Ghosts L) (cache : Cache L) (shape : Shape) : Type 0 where
   pub stamps : map (λ page. page.stamp) shape.pages ≡ cache.stamps
   pub next : shape.next ≡ cache.next

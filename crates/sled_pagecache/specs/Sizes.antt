@@ -1,4 +1,4 @@
--- How much the pages of a cache would take, were each kept by its content alone.
+-- How much the pages of a cache would take if each were stored by its content only.
 use Rattle.std.specs.Prelude.{◌≡◌, ℕ, ◌+◌, List, Some, slice_get, if◌then◌else◌}
 use Rattle.std.specs.List.{sum_by}
 use Rattle.sled_log.specs.Chains.{is_empty}
@@ -23,7 +23,7 @@ logical_size segment_size contents = sum_by content_size contents + segment_size
 abbrev pub HasDamaged : List Content → Type 0
 HasDamaged contents = (pid : ℕ) × (slice_get contents pid ≡ Some Damaged)
 
--- how much of a log the messages take that make a page; the one that leaves a page free makes none
+-- how many bytes of a log the messages take that make a page; the message that frees a page makes none
 abbrev pub chain_live : Chain → ℕ
 chain_live chain = if is_empty effect_of_entry chain then 0 else sum_by (λ entry. entry.place.log_size) chain
 

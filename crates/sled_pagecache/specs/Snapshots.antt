@@ -1,4 +1,4 @@
--- What a snapshot of a cache says.
+-- What a snapshot of a cache holds.
 use Rattle.std.specs.Prelude.{◌≡◌, length, Some, None}
 use Rattle.std.specs.List.{AllZip}
 use Rattle.sled_log.specs.LogState.{now}
@@ -8,7 +8,7 @@ use Rattle.sled_log.specs.declared.log.Log.{Ghosts}
 use Rattle.sled_pagecache.specs.Cache.{Cache}
 use Rattle.sled_pagecache.specs.declared.pagecache.handles.snapshot.Snapshot.{Snapshot}
 
--- How far the log is durable, no segment, and as many pages as there are, each by its chain where the device tells its bytes.
+-- How far the log is durable, no segment, and one entry for each page, which describes its chain if the device tells its bytes.
 pub record IsSnapshot {L : Type 0} (g : Ghosts L) (cache : Cache L) (snapshot : Snapshot) : Type 0 where
   pub stable : snapshot.stable_lsn ≡ Some (g.stable_bytes cache.log)
   pub segment : snapshot.active_segment ≡ None

@@ -1,4 +1,4 @@
--- What a page cache is: a list of stamped pages, the next generated id, whether a batch is open, and a kept write fault.
+-- What a page cache is: a list of stamped pages, the next generated id, whether a batch is open, and whether there was a write error.
 use Rattle.std.specs.Prelude.{◌≡◌, ◌≢◌, ◌+◌, ℕ, List, Option, Some, None, Result, Ok, Err, slice_get, ⊤, Bool, true, false, [], ◌∷◌, map, slice_set, if◌then◌else◌}
 use Rattle.sled_pagecache.specs.declared.pagecache.handles.view.PageView.{PageView}
 use Rattle.sled_log.specs.Contents.{Content, Free, Counter, Roots, Node, Damaged}
@@ -15,14 +15,14 @@ pid_of t = t.pid
 abbrev pub stamp_of : Token → ℕ
 stamp_of t = t.stamp
 
--- What a swap answers, whatever the log, where these are the stamps: the page's token at the next stamp; or its token, which is at
+-- What a swap returns if these are the stamps, whatever the log: the page's token at the next stamp; or its current token, which is at
 -- another stamp, with what was given; or neither.
 abbrev pub IsAnswered : {R : Type 0} → List ℕ → Token → R → Result Token (Option (Token × R)) → Type 0
 IsAnswered stamps old given (Ok made) = (slice_get stamps old.pid ≡ Some old.stamp) × (made ≡ token old.pid (old.stamp + 1))
 IsAnswered stamps old given (Err (Some back)) = (back.0.pid ≡ old.pid) × (slice_get stamps old.pid ≡ Some back.0.stamp) × (back.0.stamp ≢ old.stamp) × (back.1 ≡ given)
 IsAnswered stamps old given (Err None) = ⊤
 
--- each change of a page raises its stamp
+-- a page with its stamp, which each change of the page increases
 pub record StampedPage : Type 0 where
   pub stamp : ℕ
   pub content : Content
@@ -30,7 +30,7 @@ pub record StampedPage : Type 0 where
 abbrev pub page : ℕ → Content → StampedPage
 page stamp content = record { stamp = stamp; content = content }
 
--- the pages by their ids, the next generated id, whether a batch is open, and whether a write fault is kept
+-- the pages by their ids, the next generated id, whether a batch is open, and whether there was a write error
 pub record State : Type 0 where
   pub pages : List StampedPage
   pub next : ℕ
@@ -66,7 +66,7 @@ abbrev pub later_token : Option Token → Option Token → Option Token
 later_token None first = first
 later_token (Some last) first = Some last
 
--- the token of the free page with the greatest id, of pages of which the first has this id
+-- the token of the free page with the greatest id, among these pages, of which the first has this id
 abbrev pub greatest_free : ℕ → List StampedPage → Option Token
 greatest_free pid [] = None
 greatest_free pid (p ∷ pages) = later_token (greatest_free (pid + 1) pages) (free_token pid p)

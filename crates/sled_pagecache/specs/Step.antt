@@ -1,4 +1,4 @@
--- The page cache as a machine: which answer a call may get in a state, which state it leaves, and what it begins to write.
+-- The page cache as an abstract machine: what a call may return in a state, which state it leaves, and what it begins to write.
 use Rattle.std.specs.Prelude.{ℕ, nat_lt, if◌then◌else◌, ◌≡◌, ◌==◌, ◌||◌, ◌+◌, ◌-◌, ◌*◌, ◌/◌, ◌^◌, ◌⊎◌, Bool, false, true, List, [], ◌∷◌, ◌++◌, length, Option, Some, None, Result, Ok, Err, MatchBool, MatchOption, IsOkAnd, ◌≢◌}
 use Rattle.sled_log.specs.Contents.{Update, Link, Put, Node, Content, Free, Counter, Roots, Damaged}
 use Rattle.sled_node.specs.Node.{WholeNode}
@@ -46,9 +46,9 @@ is_reserved pid = (pid == meta_pid) || (pid == counter_pid) || (pid == batch_man
 abbrev pub IsRefused : {T : Type 0} → State → Result T Error → Outcome → Error → Type 0
 IsRefused s answer out e = (answer ≡ Err e) × (out ≡ no_change s)
 
--- ---- What a call tests, in the order of the tests, before it goes on.
+-- ---- What a call tests, in the order of the tests, before it continues.
 
--- a kept write fault is answered
+-- an earlier write error is returned
 abbrev pub UnlessFaulty : {T : Type 0} → State → Result T Error → Outcome → Type 0 → Type 0
 UnlessFaulty s answer out goes_on = MatchBool s.fault (IsRefused s answer out (Io Write)) goes_on
 
@@ -56,11 +56,11 @@ UnlessFaulty s answer out goes_on = MatchBool s.fault (IsRefused s answer out (I
 abbrev pub UnlessReserved : {T : Type 0} → State → ℕ → Result T Error → Outcome → Type 0 → Type 0
 UnlessReserved s pid answer out goes_on = MatchBool (is_reserved pid) (IsRefused s answer out (Unsupported ReservedId)) goes_on
 
--- a stamp that is to rise is below the greatest
+-- a stamp that must increase is below the greatest
 abbrev pub UnlessLastStamp : {T : Type 0} → State → ℕ → Result T Error → Outcome → Type 0 → Type 0
 UnlessLastStamp s stamp answer out goes_on = MatchBool (stamp == 2 ^ 64 - 1) (IsRefused s answer out (Unsupported StampUsedUp)) goes_on
 
--- An allocation failed, or a read failed, and the state is left; or a write failed, which is kept. Nothing is written.
+-- An allocation or a read failed, and the state stays; or a write failed, which is sticky. Nothing is written.
 abbrev pub IsHindered : State → Error → Outcome → Type 0
 IsHindered s OutOfMemory out = out ≡ no_change s
 IsHindered s (Io Read) out = out ≡ no_change s
@@ -72,12 +72,12 @@ abbrev pub Reads : {T : Type 0} → State → Result T Error → Outcome → (T 
 Reads s (Ok value) out read = (out ≡ no_change s) × read value
 Reads s (Err e) out read = IsHindered s e out
 
--- the page is damaged, or of a kind that can't stand at its id
+-- the page is damaged, or of a kind that can't be at its id
 abbrev pub IsCorruption : {T : Type 0} → State → Result T Error → Outcome → Type 0
 IsCorruption s (Err (Corruption pointer)) out = out ≡ no_change s
 IsCorruption s answer out = Reads s answer out (λ _. ⊥)
 
--- ---- get: the node and the token of a page, and none where the page is absent or free
+-- ---- get: the node and the token of a page, or none if the page is absent or free
 
 abbrev pub FindsContent : State → ℕ → ℕ → Content → Result (Option (Token × WholeNode)) Error → Outcome → Type 0
 FindsContent s pid stamp Free answer out = (answer ≡ Ok None) × (out ≡ no_change s)
@@ -114,7 +114,7 @@ TellsRoot name (Some root) answer = answer ≡ Ok root
 abbrev pub FindsRoot : State → Bytes → Result ℕ Error → Outcome → Type 0
 FindsRoot s name answer out = UnlessFaulty s answer out (HoldsRoots (page_at s meta_pid) (λ stamp roots. TellsRoot name (meta.root_of name roots) answer × (out ≡ no_change s)))
 
--- what a swap of a root answers: another root that stands there comes back
+-- what a swap of a root returns: if the name has another root, that root
 abbrev pub RootSwap : Type 0
 RootSwap = Result (Result (Unit {0}) (Option ℕ)) Error
 
@@ -151,8 +151,7 @@ Flushes s answer out = UnlessFaulty s answer out (MatchBool s.batch (IsRefused s
 abbrev pub Sizes : State → Result ℕ Error → Outcome → Type 0
 Sizes s answer out = UnlessFaulty s answer out (IsOkAnd answer (λ size. out ≡ no_change s))
 
--- ---- space_amplification: the size of the log, of which the machine knows nothing, and what the pages take. A damaged page isn't passed
--- over.
+-- ---- space_amplification: the size of the log, of which the machine knows nothing, and what the pages take. A damaged page isn't skipped.
 
 abbrev pub Measures : ℕ → State → Result (ℕ × ℕ) Error → Outcome → Type 0
 Measures segment_size s (Err (Corruption pointer)) out = HasDamaged (contents_of s) × (out ≡ no_change s)
@@ -174,12 +173,12 @@ Snaps s answer out = UnlessFaulty s answer out (SaysPages answer × (out ≡ no_
     SaysPages (Ok snapshot) = AllZip SaysPage s.pages snapshot.pt.items
     SaysPages (Err e) = e ≡ OutOfMemory
 
--- ---- seal and cancel: the batch that is open is closed, whatever comes
+-- ---- seal and cancel: the open batch is closed, whatever happens
 
 abbrev pub with_batch_closed : State → State
 with_batch_closed s = record s { batch = false }
 
--- With a write fault kept nothing is written. Else the mark is; where that fails, it may have been.
+-- After an earlier write error nothing is written. Otherwise the mark is; if that fails, it may have been written.
 abbrev pub Closes : Event Update → State → Result (Unit {0}) Error → Outcome → Type 0
 Closes mark s answer out = (s.batch ≡ true) × MatchBool s.fault ((answer ≡ Err (Io Write)) × (out ≡ no_change (with_batch_closed s))) (WritesMark answer)
   where
@@ -187,7 +186,7 @@ Closes mark s answer out = (s.batch ≡ true) × MatchBool s.fault ((answer ≡ 
     WritesMark (Ok done) = out ≡ outcome (with_batch_closed s) (mark ∷ [])
     WritesMark (Err e) = (e ≡ Io Write) × (out ≡ outcome (record (with_batch_closed s) { fault = true }) (mark ∷ []))
 
--- ---- a swap: a page that is there, and at the stamp of the token, is changed
+-- ---- a swap: a page that exists, and is at the stamp of the token, is changed
 
 abbrev pub Swapped : Type 0 → Type 0
 Swapped Rejected = Result (Result Token (Option (Token × Rejected))) Error
@@ -196,7 +195,7 @@ Swapped Rejected = Result (Result Token (Option (Token × Rejected))) Error
 abbrev pub IsGone : {R : Type 0} → State → Swapped R → Outcome → Type 0
 IsGone s answer out = (answer ≡ Ok (Err None)) × (out ≡ no_change s)
 
--- at another stamp the present token comes back, with the rejected change
+-- at another stamp the current token is returned, with the rejected change
 abbrev pub UnlessStale : {R : Type 0} → State → Token → R → ℕ → Swapped R → Outcome → Type 0 → Type 0
 UnlessStale s old rejected stamp answer out goes_on =
     MatchBool (stamp == old.stamp) goes_on ((answer ≡ Ok (Err (Some (token old.pid stamp, rejected)))) × (out ≡ no_change s))
@@ -209,20 +208,20 @@ SwapsPage s old rejected (Some found) answer out goes_on =
 abbrev pub Swaps : {R : Type 0} → State → Token → R → Swapped R → Outcome → (Content → Type 0) → Type 0
 Swaps s old rejected answer out goes_on = UnlessFaulty s answer out (UnlessReserved s old.pid answer out (SwapsPage s old rejected (page_at s old.pid) answer out goes_on))
 
--- What is written where a link made this node of a page: the link, or the node where there are as many messages as may be.
+-- What is written if a link made this node of a page: the link, or the node if the page already has as many messages as it may have.
 abbrev pub link_update : ℕ → NodeLink → WholeNode → Update
 link_update messages link after = if nat_lt messages most_messages then Link link else Put (Node after)
 
 -- ---- a change that is written
 
 module _ (full : Type 0) where
-  -- The log has no room for the change, or the call is hindered. Where a write failed, the change may have been written.
+  -- The log has no room for the change, or the call is hindered. If a write failed, the change may have been written.
   abbrev pub FailsWhereFull : State → Event Update → Error → Outcome → Type 0
   FailsWhereFull s change (Unsupported LogFull) out = full × (out ≡ no_change s)
   FailsWhereFull s change (Io Write) out = out ≡ outcome (record s { fault = true }) (change ∷ [])
   FailsWhereFull s change e out = IsHindered s e out
 
-  -- the change is written, and the work says the rest
+  -- the change is written, and `work` defines the rest
   abbrev pub DoesUnlessFull : {T : Type 0} → State → Event Update → Result T Error → Outcome → (T → State → Type 0) → Type 0
   DoesUnlessFull s change (Ok value) out work = (out.changes ≡ change ∷ []) × work value out.state
   DoesUnlessFull s change (Err e) out work = FailsWhereFull s change e out
@@ -261,7 +260,7 @@ module _ (messages : ℕ → ℕ) (no_room : Event Update → Type 0) where
   -- a link that the node accepts is applied
   abbrev pub LinksNode : State → Token → NodeLink → WholeNode → Swapped NodeLink → Outcome → Type 0
   LinksNode s old link node answer out =
-      -- the page is read first, if it doesn't lie in memory
+      -- the page is read first, if it isn't in memory
       Reads s answer out (λ _. ⊥)
       ⊎ ((¬ Accepts node link) × IsRefused s answer out (ReportableBug LinkRefused))
       ⊎ (Accepts node link × SwapsContent s old (link_update (messages old.pid) link (applied link node)) (Node (applied link node)) answer out)
@@ -291,7 +290,7 @@ module _ (messages : ℕ → ℕ) (no_room : Event Update → Type 0) where
       UnlessLastStamp s stamp answer out
       (Does s (Change meta_pid (Put (Roots roots))) answer out (λ swapped t. (swapped ≡ Ok tt) × (t ≡ with_page s meta_pid (page (stamp + 1) (Roots roots)))))
 
-  -- a name that is to have a root must be short enough, and find room
+  -- a name that gets a root must be short enough, and there must be room for it
   abbrev pub SetsRoot : State → ℕ → Bytes → Option ℕ → meta.Roots → RootSwap → Outcome → Type 0
   SetsRoot s stamp name new roots answer out =
       (IsTooLong name new × IsRefused s answer out (Unsupported NameTooLong))
@@ -330,24 +329,24 @@ module _ (messages : ℕ → ℕ) (no_room : Event Update → Type 0) where
       (MatchBool s.batch (IsRefused s answer out (Unsupported BatchOpen))
       (Does s Pin answer out (λ done t. t ≡ record s { batch = true })))
 
--- ---- attempt_gc: the page that is due is moved, which is to say that its content is written again, and its stamp stays
+-- ---- attempt_gc: the page that is due is moved: its content is written again, and its stamp stays
 
--- What is due to be moved in a log: nothing; a message that is none of its page's any more; or this page.
+-- What is due to be moved in a log: nothing; a message that no longer belongs to its page; or this page.
 pub data Due : Type 0 where
   Nothing : Due
   Outdated : Due
   Page : (pid : ℕ) → Due
 
--- What the machine knows of a log that asks for moves: which one is due, and for which content of a page there is no room again.
+-- What the machine knows of a log that asks for moves: which move is due, and for which content of a page there is no room again.
 module _ {L : Type 0} (due : L → Due) (no_room_again : L → ℕ → Content → Type 0) where
   module _ (log : L) (s : State) (pid : ℕ) where
-    -- The page may be read before.
+    -- The page may be read first.
     abbrev pub WritesAgain : Content → Result Bool Error → Outcome → Type 0
     WritesAgain content answer out =
         Reads s answer out (λ _. ⊥)
         ⊎ DoesUnlessFull (no_room_again log pid content) s (Change pid (Put content)) answer out (λ moved t. (moved ≡ true) × (t ≡ s))
 
-    -- One that is damaged is reported where it is read, and else written again as it is.
+    -- A damaged page is reported if it is read, and otherwise written again as it is.
     abbrev pub MovesContent : Content → Result Bool Error → Outcome → Type 0
     MovesContent Damaged answer out = IsCorruption s answer out ⊎ WritesAgain Damaged answer out
     MovesContent content answer out = WritesAgain content answer out
@@ -364,7 +363,7 @@ module _ {L : Type 0} (due : L → Due) (no_room_again : L → ℕ → Content �
   abbrev pub Tidies : L → State → Result Bool Error → Outcome → Type 0
   Tidies log s answer out = UnlessFaulty s answer out (Moves log s (due log) answer out)
 
-  -- Behind a swap that wrote a whole node the page is moved that is due then. Whatever comes of that, the swap's answer stands.
+  -- After a swap that wrote a whole node, the page that is then due is moved. The move never changes the swap's answer.
   module _ (Behind : List (Event Update) → L → Type 0) where
     pub record TidiesBehind (swap out : Outcome) : Type 0 where
       pub mid : L
@@ -378,8 +377,8 @@ module _ {L : Type 0} (due : L → Due) (no_room_again : L → ℕ → Content �
     TidiesIfSwapped (Ok (Ok made)) swap out = TidiesBehind swap out
     TidiesIfSwapped answer swap out = out ≡ swap
 
-  -- ---- From s, the cache may give this answer to the call, and leave this: an act for each call, and what is added to a swap.
-  -- Ids are generated in intervals so long, and a segment has that size.
+  -- ---- From s, the cache may give this answer to the call, and leave this outcome: an act for each call, and what is added to a swap. The
+  -- interval is the length of an interval of generated ids, and the segment size is that of the log.
   module _ (messages : ℕ → ℕ) (no_room : Event Update → Type 0) (interval segment_size : ℕ) (log : L) where
     abbrev pub Act : State → Call → Answer → Outcome → Type 0
     Act s (Allocate node) (Allocated answer) out = Allocates messages no_room s node answer out

@@ -1,4 +1,4 @@
--- Opening a tree by its name: which calls of the cache that is, and what stands where one of them is refused.
+-- Opening a tree by its name: which calls of the cache that makes, and what stays if one of them fails.
 use Rattle.std.specs.Prelude.{◌≡◌, ◌⊎◌, ◌||◌, ℕ, true, false, List, [], ◌∷◌, Option, Some, None, Result, Ok, Err, IsOk, IsErrOf}
 use Rattle.sled_base.specs.Order.{Bytes}
 use Rattle.sled_base.specs.declared.types.Bug.TheVariants.{MissingMeta}
@@ -31,9 +31,9 @@ MadeCalls = List (Call × Answer)
 abbrev pub index_over : ℕ → WholeNode
 index_over leaf = index_of (([], Child leaf) ∷ [])
 
--- ---- The look at the named roots, which comes first.
+-- ---- Looking up the named roots, which comes first.
 
--- the root that the name has; or why it can be given none; or that it can
+-- the root that the name has; or why it can't be given one; or that it can
 abbrev pub TellsTree : Bytes → Roots → Option ℕ → Result (Option ℕ) Error → Type 0
 TellsTree name roots (Some root) found = found ≡ Ok (Some root)
 TellsTree name roots None found =
@@ -45,8 +45,8 @@ abbrev pub FindsTree : Bytes → Result (Token × Roots) Error → Result (Optio
 FindsTree name (Ok told) found = TellsTree name told.1 (root_of name told.1) found
 FindsTree name (Err e) found = found ≡ Err e
 
--- ---- The calls behind it, each with its answer, up to the first that is refused. Where the cache is in a state, the swap of the root
--- doesn't find another one, since the name had none.
+-- ---- The calls after it, each with its answer, up to the first that fails. If the cache is in a state, the swap of the root doesn't find
+-- another one, since the name had none.
 
 module _ (found_another : Type 0) (name : Bytes) (result : Result ℕ Error) where
   abbrev pub EndsSwap : ℕ → RootSwap → Type 0
@@ -54,7 +54,7 @@ module _ (found_another : Type 0) (name : Bytes) (result : Result ℕ Error) whe
   EndsSwap root (Ok (Err another)) = found_another × (result ≡ Err (ReportableBug MissingMeta))
   EndsSwap root (Err e) = result ≡ Err e
 
-  -- The name is given its root. Where that is refused, the leaf and the index stand.
+  -- The name is given its root. If that fails, the leaf and the index stay.
   abbrev pub NamesRoot : ℕ → MadeCalls → Type 0
   NamesRoot root calls = (answer : RootSwap) × (calls ≡ (CasRoot name None (Some root), RootSwapped answer) ∷ []) × EndsSwap root answer
 
@@ -62,7 +62,7 @@ module _ (found_another : Type 0) (name : Bytes) (result : Result ℕ Error) whe
   GoesOnOver (Ok made) calls = NamesRoot made.0 calls
   GoesOnOver (Err e) calls = (calls ≡ []) × (result ≡ Err e)
 
-  -- An index is put over the leaf. Where it is refused, or can't be made for want of memory, the leaf stands.
+  -- An index is put over the leaf. If it is refused, or if there is no memory for it, the leaf stays.
   abbrev pub PutsIndex : ℕ → MadeCalls → Type 0
   PutsIndex leaf calls =
       ((calls ≡ []) × (result ≡ Err OutOfMemory))
@@ -72,17 +72,17 @@ module _ (found_another : Type 0) (name : Bytes) (result : Result ℕ Error) whe
   GoesOnWith (Ok made) calls = PutsIndex made.0 calls
   GoesOnWith (Err e) calls = (calls ≡ []) × (result ≡ Err e)
 
-  -- An empty leaf is put on a page. Where it is refused, nothing stands.
+  -- An empty leaf is put on a page. If it is refused, nothing stays.
   abbrev pub MakesTree : MadeCalls → Type 0
   MakesTree calls = (answer : Result (ℕ × Token) Error) × (others : MadeCalls) × (calls ≡ (Allocate empty_leaf, Allocated answer) ∷ others) × GoesOnWith answer others
 
-  -- A name that has a root is answered by it, and one that can be given none is refused.
+  -- For a name that has a root, that is returned. A name that can't be given one is refused.
   abbrev pub OpensTree : Result (Option ℕ) Error → MadeCalls → Type 0
   OpensTree (Ok (Some root)) calls = (calls ≡ []) × (result ≡ Ok root)
   OpensTree (Ok None) calls = MakesTree calls
   OpensTree (Err e) calls = (calls ≡ []) × (result ≡ Err e)
 
-  -- all of them, with the look
+  -- all of them, with the lookup
   abbrev pub AreCallsOf : MadeCalls → Type 0
   AreCallsOf calls =
       (look : Result (Token × Roots) Error) × (found : Result (Option ℕ) Error) × (others : MadeCalls) × (calls ≡ (GetMeta, GotMeta look) ∷ others) × FindsTree name look found × OpensTree found others
@@ -100,7 +100,7 @@ stamps_then stamps [] = stamps
 stamps_then stamps (made ∷ calls) = stamps_then (stamps_after stamps made.1) calls
 
 module _ {L : Type 0} (g : Ghosts L) where
-  -- What such a call does in memory: it accesses its page; or it is refused.
+  -- What such a call does in memory: it accesses its page, or it fails.
   abbrev pub Touches : Cache L → Answer → Cache L → Type 0
   Touches old (Allocated (Ok made)) new = AccessesPage old made.0 new × IsResident new made.0
   Touches old (Allocated (Err e)) new = LeavesNodes g.tells old new e
@@ -109,7 +109,7 @@ module _ {L : Type 0} (g : Ghosts L) where
   Touches old (RootSwapped (Err e)) new = EvictsAtMost old meta_pid new g.tells e
   Touches old answer new = ⊥
 
-  -- and what several do, one after another
+  -- what several calls do, one after another
   abbrev pub AreTouched : Cache L → MadeCalls → Cache L → Type 0
   AreTouched old [] new = new ≡ old
   AreTouched old (made ∷ calls) new = (mid : Cache L) × Touches old made.1 mid × AreTouched mid calls new
@@ -118,8 +118,8 @@ module _ {L : Type 0} (g : Ghosts L) where
   abbrev pub IsKnown : Cache L → Type 0
   IsKnown cache = (held : Logged) × (s : State) × Represents g cache held s
 
-  -- The named roots are looked at, and then come the calls that make a tree, where the name has none. Where it has, or can be given
-  -- none, nothing changes, and no memory and no log is asked.
+  -- The named roots are looked up. If the name has no root, the calls that make a tree follow. If it has one, or can't be given one,
+  -- nothing changes, and neither memory nor the log is used.
   pub record IsTreeOpened (old : Cache L) (name : Bytes) (result : Result ℕ Error) (new : Cache L) : Type 0 where
     pub look : Result (Token × Roots) Error
     pub always : old.fault ≡ false → IsOk look
@@ -133,7 +133,7 @@ module _ {L : Type 0} (g : Ghosts L) where
     pub touched : AreTouched old calls new
     pub same : calls ≡ [] → new ≡ old
 
--- A batch stays open or closed. A write fault is sticky, and with one kept it is the answer, and nothing changes.
+-- A batch stays open or closed. A write error is sticky: after an earlier one the call returns it, and nothing changes.
 pub record KeepsFault {L T : Type 0} (old new : Cache L) (result : Result T Error) : Type 0 where
   pub batch : new.batch ≡ old.batch
   pub fault : new.fault ≡ (old.fault || is_write_fault result)

@@ -16,11 +16,11 @@ ghost use Rattle.sled_pagecache.specs.declared.pagecache.handles.call.Call.TheVa
 
 use sled_log::Log;
 
-/// After a crash a batch stands whole, or nothing of it does.
+/// Proves that a sealed batch is all or nothing after a crash.
 ///
-/// Before it is sealed, a crash at any moment since it was opened, inside a call too, reopens to what one before it would have left.
-/// From the sealing on a crash reopens to that or to all of it, whatever the sealing answered. Once a flush has answered Ok, a crash
-/// reopens to all. A batch that is cancelled may stand in part.
+/// Before the batch is sealed, a crash at any moment since it was opened, even inside a call, reopens to pages that a crash before the
+/// batch could have left. Once it is sealed, whatever the seal returned, a crash reopens to such pages or to all of the batch. Once a flush
+/// has returned Ok, a crash reopens to all of it. A crash may leave a part of a cancelled batch.
 pub fn a_batch_stands_whole_or_not_at_all<L: Log>()
     ensures unsealed { (old new : Cache L) (calls : List (Call × Answer))
         → RunsBatch L.Log old calls new

@@ -1,4 +1,4 @@
-//! Crashes of a cache on a disk in memory, and the cache that is opened over what is left.
+//! Crashes of a cache on a disk in memory, and the cache that is reopened over what each crash leaves.
 
 ghost use Rattle.std.specs.Prelude.{◌≡◌, ◌≤◌, ◌<◌, ◌-◌, ◌^◌, [], false, List, IfOk, IfErr};
 ghost use Rattle.sled_disk.specs.declared.disk.memory.MemDisk.{MemDisk};
@@ -19,7 +19,7 @@ use sled_disk::{Disk, DiskLog, MemDisk};
 use sled_log::Log;
 use std::alloc::Global;
 
-/// A cache of which nothing is pending, and that keeps no write fault, is flushed, in whatever state it is.
+/// Proves that a cache with nothing pending and no write error is flushed, whichever state it is in.
 pub fn a_cache_is_flushed<L: Log>(cache: &PageCache<L>)
     ensures { cache.now.fault ≡ false → (L.state cache.now.log).pending ≡ []
         → (held : Logged) (s : State) → Represents L.Log cache.now held s
@@ -28,8 +28,10 @@ pub fn a_cache_is_flushed<L: Log>(cache: &PageCache<L>)
     cache.know_own();
 }
 
-/// A cache on a new disk in memory, which has room for so many written bytes, and for so many writes and syncs. It has the system
-/// pages alone, and all of it is durable.
+/// Starts a cache on a new disk in memory.
+///
+/// The disk has room for `limit` written bytes, and for `limit` writes and syncs. The cache has only the system pages, and all of it is
+/// durable.
 pub fn start_on_a_new_disk(
     alloc: Global,
     limit: usize,
@@ -51,7 +53,8 @@ pub fn start_on_a_new_disk(
     }
 }
 
-/// How many writes and syncs the disk of a cache has made: the moment of its log. A crash before the next one is a crash now.
+/// Returns how many writes and syncs the disk of a cache has made, which is the moment of its log. A crash before the next write or sync is
+/// a crash now.
 pub fn writes_and_syncs(cache: &PageCache<DiskLog<MemDisk>>) -> usize
     ensures moment { result ≡ ⟦<DiskLog<MemDisk> as Log>⟧.moment cache.now.log }
     ensures small { result < 2 ^ 63 }
@@ -59,13 +62,13 @@ pub fn writes_and_syncs(cache: &PageCache<DiskLog<MemDisk>>) -> usize
     cache.log().disk().calls()
 }
 
-/// The cache that is opened again after a crash of its disk before the n-th write or sync, of which the first is 1. Unsynced ranges
-/// are left as they were written or, where one is given, of that byte.
+/// Reopens a cache after a crash of its disk before write or sync number `n`, counted from 1. The crash leaves each unsynced range as it
+/// was written or, if `fill` is given, filled with that byte.
 ///
-/// A cache was flushed, and calls were made of it since, whatever they answered. The crash comes at any moment since the flush, also
-/// inside a call, inside a batch, and after a write fault. The cache that is opened again has the pages after a prefix of the changes
-/// of those calls, which splits no batch and holds all that was flushed; and all of it is durable, so the same holds of the next crash.
-/// Nothing but the settings, an allocation or the device refuses it.
+/// The contract is about a cache that was flushed, and then called, whatever the calls returned. The crash comes at any moment since the
+/// flush, even inside a call, inside a batch, or after a write error. The reopened cache has the pages after a prefix of the changes of
+/// those calls. The prefix splits no batch, and the pages hold everything that was flushed. All of the reopened cache is durable, so the
+/// same holds for the next crash. Reopening fails only because of the settings, an allocation or the device.
 pub fn reopen_after_a_crash(
     alloc: Global,
     cache: PageCache<DiskLog<MemDisk>>,
@@ -93,7 +96,7 @@ pub fn reopen_after_a_crash(
     }
 }
 
-/// The same of a cache that was flushed and not called since: what is opened again has exactly its pages, each at stamp 0.
+/// Reopens, in the same way, a cache that was flushed and not called since. The reopened cache has exactly its pages, each at stamp 0.
 pub fn what_was_flushed_is_there(
     alloc: Global,
     cache: PageCache<DiskLog<MemDisk>>,

@@ -1,4 +1,4 @@
-//! What holds of the definitions that the contracts of a page cache cite.
+//! Properties of the definitions that the contracts of a page cache cite.
 
 ghost use Rattle.std.specs.Prelude.{◌≡◌, [], ◌++◌, Bool, false, List, Result, take};
 ghost use Rattle.sled_log.specs.Contents.{Update, contents_after};
@@ -27,7 +27,7 @@ use crate::pagecache::{
 };
 use sled_log::Log;
 
-/// The constants of the crate are the numbers of the definitions.
+/// Proves that the constants of the crate are the numbers of the definitions.
 pub fn constants_are_the_numbers()
     ensures meta { META_PID ≡ meta_pid }
     ensures counter { COUNTER_PID ≡ counter_pid }
@@ -38,12 +38,12 @@ pub fn constants_are_the_numbers()
     ensures length { CHUNK_LENGTH ≡ chunk_length }
 {}
 
-/// A log to which nothing was appended holds no page.
+/// Proves that a log to which nothing was appended holds no page.
 pub fn an_empty_log_is_logged()
     ensures { (usable : Bool) → IsLogged (stable_state [] usable) (stable_contents []) }
 {}
 
-/// What a crash leaves is a log again that a cache can be opened over, and holds the contents that the crash left.
+/// Proves that a crash leaves a log over which a cache can be opened again, and that this log holds the contents that the crash left.
 pub fn what_a_crash_leaves_is_logged()
     ensures { (held : Logged) (changes : List (Event Update)) (pages : List Messages)
         (left : IsLeft held changes pages) (usable : Bool)
@@ -51,17 +51,17 @@ pub fn what_a_crash_leaves_is_logged()
         (contents_after held.stable (take left.cut (held.pending ++ left.came)))) }
 {}
 
-/// A cache whose caller served its log between two calls stays in the state that it is in, whichever that is.
+/// Proves that a cache stays in its state, whichever that is, while its caller serves its log between two calls.
 pub fn a_served_cache_stays_as_it_is<L: Log>()
     ensures { (old new : Cache L) → IsServed L.Log old new → StaysAsItIs L.Log old new }
 {}
 
-/// A crash at any moment, inside a call too, reopens to the pages after a prefix of the changes begun, which holds all that was
-/// durable and splits no batch.
+/// Proves that a crash at any moment, even inside a call, reopens to the pages after a prefix of the changes begun. The prefix holds
+/// everything that was durable, and splits no batch.
 ///
-/// It is said of a call, of calls in a row, and of opening a cache, in whatever state each is. The moment is any since its start;
-/// what a log may have lost then is any of its crash states, after a write error too; and a cache that `start` opens over a log
-/// which holds that is the opening of those pages.
+/// The clauses are for one call, for calls in a row, and for opening a cache. The calls may start in any state without a write error. The
+/// crash may come at any moment since the start of the call, the calls or the opening, and may leave any crash state that the log has then,
+/// also after a write error in them. A cache that `start` opens over a log with such a crash state is the opening of those pages.
 pub fn a_crash_reopens_to_a_prefix<L: Log>()
     ensures of_a_call { (old new : Cache L) (call : Call) (answer : Answer)
         → Steps L.Log old call answer new

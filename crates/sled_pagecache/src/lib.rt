@@ -3,11 +3,11 @@
 //! In reading order:
 //!
 //! - `pagecache`: the cache, its settings, its tokens and its calls
-//! - `openings`: caches that are opened one after another: the pages that each shows, and the ids that they generate
-//! - `rows`: what calls of the page cache in a row do
+//! - `openings`: theorems about caches that are opened one after another: the pages that each shows, and the ids that they generate
+//! - `rows`: what a sequence of calls of the page cache does
 //! - `batches`: what a crash leaves of a batch
-//! - `crashes`: crashes of a cache on a disk in memory, each opened again
-//! - `laws`: what holds of the definitions that the contracts of a page cache cite, one crash of any cache among it
+//! - `crashes`: crashes of a cache on a disk in memory, each followed by a reopening
+//! - `laws`: properties of the definitions that the contracts of a page cache cite, and what one crash of any cache leaves
 #![tactic(auto)]
 
 pub mod batches;

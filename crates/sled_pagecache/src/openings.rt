@@ -1,4 +1,4 @@
-//! What holds of caches that are opened over one log, one after another.
+//! Theorems about caches that are opened over one log, one after another.
 
 ghost use Rattle.std.specs.Prelude.{List, []};
 ghost use Rattle.sled_disk.specs.declared.disk.file.FileDisk.{FileDisk};
@@ -12,23 +12,29 @@ ghost use Rattle.sled_pagecache.specs.Prefixes.{ShowPrefixes};
 use sled_disk::{CallersFile, Disk, DiskLog, FileDisk, MemDisk, StagedDisk, SystemFile};
 use sled_log::Log;
 
-/// From an empty log, over every list of openings, calls, crashes at any moment, and logs handed on or rewritten: each opening's cache is
-/// what is opened of the pages after a prefix of the changes that were begun before, which holds all that was flushed and splits no batch,
-/// and its answers are those of the machine from there.
+/// Proves that every opening shows the pages after a prefix of the changes that were begun before it. The prefix holds everything that was
+/// flushed, and splits no batch.
 ///
-/// Each crash keeps such a prefix of what came since the one before, and what comes then is added to that. A flush that was made flushes all
-/// that came, and so does an id that wrote a counter. A cache is opened over what the
-/// time before left: what a crash left, inside a call, inside `start` or inside `rewrite_into` too, and after a write fault; the log that
-/// `into_log` handed on, where no write failed; another log, that `rewrite_into` answered, which holds the pages by then, all of them flushed;
-/// or the log that a refused `start` gave back. Between two calls, and before a log is opened, whoever reads and writes for the log may do so: it
-/// stays in its state then (`IsServed`). Nothing but an allocation, the device, the settings, or a log that
-/// has no room for a missing system page refuses an opening. That is all that is asked, of any log that tells its bytes.
+/// This holds from an empty log, over every sequence of openings, calls, crashes at any moment, and logs that are passed on or rewritten.
+/// The cache of each opening is what is opened of those pages, and from there its answers are those of the machine.
+///
+/// Each crash keeps such a prefix of what was added since the crash before it, and later changes are added to that prefix. A flush that
+/// returned Ok has flushed everything before it, and so has the generation of an id that wrote a counter.
+///
+/// A cache is opened over what the previous opening left. This is what a crash left, even inside a call, inside `start` or inside
+/// `rewrite_into`, and after a write error; or the log that `into_log` returned, if no write failed; or another log that `rewrite_into`
+/// returned, which holds the pages of that moment, all of them flushed; or the log that `start` returned with an error other than a write
+/// error.
+///
+/// Between two calls, and before a log is opened, the caller may read and write for the log, which stays in its state (`IsServed`). An
+/// opening fails only because of an allocation, the device, the settings, or a log that has no room for a missing system page. The theorem
+/// assumes nothing else, and holds for any log that tells its bytes.
 pub fn every_opening_shows_a_prefix<L: Log>()
     ensures { L.tells → (log : L) (openings : List (Opening L)) → IsEmpty L.Log log
         → IsRun L.Log log openings → ShowPrefixes L.Log (history_from []) openings }
 {}
 
-/// The same over a log on a disk in memory, which tells its bytes: whatever is torn, and wherever the disk stops.
+/// Proves the same for a log on a disk in memory, which tells its bytes: whatever is torn, and wherever the disk stops.
 pub fn every_opening_of_a_disk_shows_a_prefix()
     ensures { (log : DiskLog MemDisk ⟦<MemDisk as Disk>⟧)
         (openings : List (Opening (DiskLog MemDisk ⟦<MemDisk as Disk>⟧)))
@@ -39,7 +45,7 @@ pub fn every_opening_of_a_disk_shows_a_prefix()
     every_opening_shows_a_prefix::<DiskLog<MemDisk>>();
 }
 
-/// The same over a log on a file of the system, if the system keeps its word: what that is, `SystemFile` says.
+/// Proves the same for a log on a file of the system, if the system keeps its word. `SystemFile` defines what that is.
 pub fn every_opening_of_a_file_shows_a_prefix<F: SystemFile>()
     ensures { F.tells
         → (log : DiskLog (FileDisk F F.SystemFile) ⟦<FileDisk<F> as Disk>⟧)
@@ -51,8 +57,8 @@ pub fn every_opening_of_a_file_shows_a_prefix<F: SystemFile>()
     every_opening_shows_a_prefix::<DiskLog<FileDisk<F>>>();
 }
 
-/// The same over a log whose caller reads and writes its file (`StagedDisk`), if he keeps his word of the file: what that is, `CallersFile` says.
-/// What waits may be worked off between any two calls, or later, or never.
+/// Proves the same for a log whose caller reads and writes its file (`StagedDisk`), if the caller keeps its word about the file.
+/// `CallersFile` defines what that is. The caller may do the waiting tasks between any two calls, or later, or never.
 pub fn every_opening_of_a_callers_file_shows_a_prefix<F: CallersFile>()
     ensures { F.tells
         → (log : DiskLog (StagedDisk F F.CallersFile) ⟦<StagedDisk<F> as Disk>⟧)
@@ -64,14 +70,17 @@ pub fn every_opening_of_a_callers_file_shows_a_prefix<F: CallersFile>()
     every_opening_shows_a_prefix::<DiskLog<StagedDisk<F>>>();
 }
 
-/// From an empty log, over every list of openings as above in which no config has a shorter interval of ids than one before it: each
-/// generated id is above every id that was answered before it. So none comes twice, whatever crashes and rewritten logs come between.
+/// Proves that no generated id is repeated, whatever crashes and rewritten logs come between: each generated id is greater than every id
+/// that was returned before it.
+///
+/// This holds from an empty log, over every sequence of openings as above in which no opened cache has a shorter interval of ids than one
+/// before it.
 pub fn ids_are_given_once<L: Log>()
     ensures { L.tells → (log : L) (openings : List (Opening L)) → IsEmpty L.Log log
         → IsRun L.Log log openings → KeepIntervals 0 openings → AreRising (ids_of openings) }
 {}
 
-/// The same over a log on a file of the system, if the system keeps its word.
+/// Proves the same for a log on a file of the system, if the system keeps its word.
 pub fn ids_over_a_file_are_given_once<F: SystemFile>()
     ensures { F.tells
         → (log : DiskLog (FileDisk F F.SystemFile) ⟦<FileDisk<F> as Disk>⟧)
@@ -83,7 +92,7 @@ pub fn ids_over_a_file_are_given_once<F: SystemFile>()
     ids_are_given_once::<DiskLog<FileDisk<F>>>();
 }
 
-/// The same over a log whose caller reads and writes its file, if he keeps his word.
+/// Proves the same for a log whose caller reads and writes its file, if the caller keeps its word.
 pub fn ids_over_a_callers_file_are_given_once<F: CallersFile>()
     ensures { F.tells
         → (log : DiskLog (StagedDisk F F.CallersFile) ⟦<StagedDisk<F> as Disk>⟧)

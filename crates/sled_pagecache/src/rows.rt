@@ -1,4 +1,4 @@
-//! What calls of the page cache in a row do.
+//! What a sequence of calls of the page cache does.
 
 ghost use Rattle.std.specs.Prelude.{List, [], ◌∷◌, ◌++◌};
 ghost use Rattle.sled_pagecache.specs.Cache.{Cache};
@@ -9,10 +9,10 @@ ghost use Rattle.sled_pagecache.specs.declared.pagecache.handles.call.Call.{Call
 
 use sled_log::Log;
 
-/// No call and one call are steps in a row, and so are calls after others, and calls that were made one after another.
+/// Proves which calls are steps in a row: no call, one call, calls after other such calls, and calls that were made one after another.
 ///
-/// What they write is added to the log in order, and a crash at any moment of them leaves what the log held and a prefix of
-/// what all of them write, which splits no batch.
+/// What they write is added to the log in order. A crash at any moment during them leaves what the log held and a prefix of everything that
+/// they write, which splits no batch.
 pub fn calls_in_a_row_are_steps<L: Log>()
     ensures none { (cache : Cache L) → StepInRow L.Log cache [] cache }
     ensures one { (old new : Cache L) (call : Call) (answer : Answer)

@@ -5,7 +5,7 @@ use sled_log::{Log, MemLog};
 use sled_pagecache::{Config, PageCache};
 use std::alloc::Global;
 
-/// The cache over the log in memory.
+/// A cache over the log in memory.
 pub type Cache = PageCache<MemLog>;
 
 /// The settings of most caches.
@@ -15,10 +15,10 @@ pub const CONFIG: Config = Config {
     segment_size: 4096,
 };
 
-/// The id of a page that the cache keeps for itself.
+/// A page id that the cache reserves: it marks the beginning of a batch in a log.
 pub const MANIFEST: PageId = u64::MAX - 666;
 
-/// Opens a cache over a log, unless a batch is open in it. The log comes back where none is opened.
+/// Opens a cache over a log, unless a batch is open in it. An error returns the log.
 pub fn opening(alloc: Global, config: Config, log: MemLog) -> Result<Cache, (Error, MemLog)> {
     if log.batch_open() {
         return Err((Error::Unsupported(Why::BatchOpen), log));
@@ -26,12 +26,12 @@ pub fn opening(alloc: Global, config: Config, log: MemLog) -> Result<Cache, (Err
     PageCache::start(alloc, config, log)
 }
 
-/// A cache over a new log, where payloads above so many bytes are blobs.
+/// Opens a cache over a new log, in which payloads above `blob_limit` bytes are blobs. It returns None if that fails.
 pub fn started(alloc: Global, blob_limit: usize) -> Option<Cache> {
     opening(alloc, CONFIG, MemLog::new(alloc, blob_limit, 16)).ok()
 }
 
-/// The log of a cache, if no batch is open.
+/// Returns the log of a cache, or None if a batch is open.
 pub fn log_of<L: Log>(cache: PageCache<L>) -> Option<L> {
     if cache.batch_open() {
         return None;
@@ -39,7 +39,7 @@ pub fn log_of<L: Log>(cache: PageCache<L>) -> Option<L> {
     Some(cache.into_log())
 }
 
-/// The same, where the cache shows all that it should.
+/// Returns the log of a cache if `is_so` is true and no batch is open, and otherwise None.
 pub fn log_if<L: Log>(cache: PageCache<L>, is_so: bool) -> Option<L> {
     if is_so {
         return log_of(cache);

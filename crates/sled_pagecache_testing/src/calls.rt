@@ -1,4 +1,4 @@
-//! Calls of a cache over any log, and what they answer as an outcome.
+//! Calls of a cache over any log, and what they return as an outcome.
 
 ghost use Rattle.std.specs.Prelude.{◌≡◌};
 
@@ -10,12 +10,12 @@ use sled_node::{Link, Node};
 use sled_pagecache::{PageCache, PageView, open_tree};
 use std::alloc::{AllocError, Global};
 
-/// What a link answers, and what a replacement.
+/// The results of a link, and below those of a replacement.
 type Linked = Result<Result<PageView, Option<(PageView, Link)>>, Error>;
 
 type Replaced = Result<Result<PageView, Option<(PageView, Node)>>, Error>;
 
-/// What an error is as an outcome.
+/// Converts an error to an outcome.
 pub fn outcome_of(error: &Error) -> Outcome {
     match error {
         Error::Unsupported(why) => Outcome::Refused(*why),
@@ -29,7 +29,7 @@ pub fn outcome_of(error: &Error) -> Outcome {
 
 // ---- pages
 
-/// Adds a page, and answers where it went.
+/// Adds a page, and returns its id and stamp.
 pub fn adds<L: Log>(cache: &mut PageCache<L>, node: Node) -> Outcome
     ensures { cache.new.batch ≡ cache.old.batch }
 {
@@ -40,7 +40,7 @@ pub fn adds<L: Log>(cache: &mut PageCache<L>, node: Node) -> Outcome
     }
 }
 
-/// Whether empty leaves go to these pages, one after another.
+/// Adds empty leaves, and returns whether they go to the pages from `first` up to but not including `end`, in order and at stamp 1.
 pub fn adds_from<L: Log>(
     alloc: Global,
     cache: &mut PageCache<L>,
@@ -55,7 +55,7 @@ pub fn adds_from<L: Log>(
     true
 }
 
-/// Adds an empty leaf of the keys between these.
+/// Adds an empty leaf of the keys between these bounds.
 pub fn adds_between<L: Log>(
     alloc: Global,
     cache: &mut PageCache<L>,
@@ -78,7 +78,7 @@ fn link_of(alloc: Global, change: &Change) -> Result<Link, AllocError> {
     }
 }
 
-/// What a swap of a page answered, by a link or a node that was the same as this.
+/// Returns the outcome of a swap of a page by a link or a node that equals `same`.
 pub fn outcome_of_swap<R: PartialEq>(
     answer: &Result<Result<PageView, Option<(PageView, R)>>, Error>,
     pid: PageId,
@@ -95,7 +95,7 @@ pub fn outcome_of_swap<R: PartialEq>(
     }
 }
 
-/// Links a page by the token of this stamp. The same link stands beside it.
+/// Links a page by the token of this stamp. `same` equals the link, to compare with what the call returns.
 pub fn links<L: Log>(
     cache: &mut PageCache<L>,
     pid: PageId,
@@ -113,7 +113,7 @@ pub fn links<L: Log>(
 
 fn let_go(_answer: Linked) {}
 
-/// Links a page by such a link and a token of this stamp.
+/// Links a page by the link of a change and a token of this stamp.
 pub fn links_so<L: Log>(
     alloc: Global,
     cache: &mut PageCache<L>,
@@ -129,7 +129,8 @@ pub fn links_so<L: Log>(
     }
 }
 
-/// Whether so many links of one pair are made, by tokens of this stamp and the following.
+/// Links a page `links` times by one pair, and returns whether each succeeds: the first by the token of stamp `first`, each other by the
+/// token of the next stamp.
 pub fn links_from<L: Log>(
     alloc: Global,
     cache: &mut PageCache<L>,
@@ -146,7 +147,7 @@ pub fn links_from<L: Log>(
     true
 }
 
-/// Replaces a page by the token of this stamp. The same node stands beside it.
+/// Replaces a page by the token of this stamp. `same` equals the node, to compare with what the call returns.
 pub fn replaces<L: Log>(
     cache: &mut PageCache<L>,
     pid: PageId,
@@ -220,7 +221,7 @@ pub fn swaps<L: Log>(
     }
 }
 
-/// Opens the tree of a name, and answers its root.
+/// Opens the tree of a name, and returns its root.
 pub fn opens<L: Log>(alloc: Global, cache: &mut PageCache<L>, name: &[u8]) -> Outcome {
     let Ok(name) = IVec::from_slice(alloc, name) else {
         return Outcome::Unmade;
@@ -231,7 +232,7 @@ pub fn opens<L: Log>(alloc: Global, cache: &mut PageCache<L>, name: &[u8]) -> Ou
     }
 }
 
-/// The root of a name, or none where it has none and is reported.
+/// Returns the root of a name: `Some(None)` if the name has none and the error holds the name, and None for any other error.
 pub fn root_of<L: Log>(cache: &PageCache<L>, name: &[u8]) -> Option<Option<PageId>> {
     match cache.meta_pid_for_name(name) {
         Ok(root) => Some(Some(root)),
@@ -240,7 +241,7 @@ pub fn root_of<L: Log>(cache: &PageCache<L>, name: &[u8]) -> Option<Option<PageI
     }
 }
 
-/// How many names there are, and the stamp of their page.
+/// Returns how many names there are, and the stamp of their page.
 pub fn names_and_stamp<L: Log>(cache: &PageCache<L>) -> Option<(usize, u64)> {
     match cache.get_meta() {
         Ok(view) if view.token().pid() == 0 => Some((view.meta().len(), view.token().ts())),
@@ -248,7 +249,7 @@ pub fn names_and_stamp<L: Log>(cache: &PageCache<L>) -> Option<(usize, u64)> {
     }
 }
 
-/// Draws an id.
+/// Generates an id.
 pub fn draws<L: Log>(cache: &mut PageCache<L>) -> Outcome {
     match cache.generate_id_inner() {
         Ok(id) => Outcome::Id(id),
@@ -256,7 +257,7 @@ pub fn draws<L: Log>(cache: &mut PageCache<L>) -> Outcome {
     }
 }
 
-/// Whether so many ids come, from this one on.
+/// Generates `count` ids, and returns whether they are `first` and the numbers after it.
 pub fn gives<L: Log>(cache: &mut PageCache<L>, first: u64, count: u64) -> bool {
     for i in 0..count {
         if draws(cache) != Outcome::Id(first.wrapping_add(i)) {
@@ -266,7 +267,7 @@ pub fn gives<L: Log>(cache: &mut PageCache<L>, first: u64, count: u64) -> bool {
     true
 }
 
-/// The counter, and the stamp of its page, or none where a write failed.
+/// Returns the counter and the stamp of its page, or `Some(None)` after a write error.
 pub fn counted<L: Log>(cache: &PageCache<L>) -> Option<Option<(u64, u64)>> {
     match cache.get_idgen() {
         Ok((token, counter)) if token.pid() == 1 => Some(Some((counter, token.ts()))),
@@ -277,7 +278,7 @@ pub fn counted<L: Log>(cache: &PageCache<L>) -> Option<Option<(u64, u64)>> {
 
 // ---- the log
 
-/// How many bytes a flush writes.
+/// Flushes the cache, and returns how many bytes that writes.
 pub fn flushes<L: Log>(cache: &mut PageCache<L>) -> Result<usize, Outcome> {
     match cache.flush() {
         Ok(bytes) => Ok(bytes),
@@ -285,7 +286,7 @@ pub fn flushes<L: Log>(cache: &mut PageCache<L>) -> Result<usize, Outcome> {
     }
 }
 
-/// How many bytes the log takes.
+/// Returns how many bytes the log takes.
 pub fn size_of<L: Log>(cache: &PageCache<L>) -> Result<u64, Outcome> {
     match cache.size_on_disk() {
         Ok(bytes) => Ok(bytes),
@@ -293,7 +294,7 @@ pub fn size_of<L: Log>(cache: &PageCache<L>) -> Result<u64, Outcome> {
     }
 }
 
-/// Whether the cache is shown so.
+/// Returns whether the cache prints as this text.
 pub fn is_printed<L: Log>(alloc: Global, cache: &PageCache<L>, text: &str) -> bool {
     match format!(in alloc; "{cache:?}") {
         Ok(shown) => shown.as_str() == text,
@@ -301,7 +302,7 @@ pub fn is_printed<L: Log>(alloc: Global, cache: &PageCache<L>, text: &str) -> bo
     }
 }
 
-/// Whether a message was due, and what its page was refused for.
+/// Attempts a move, and returns whether a message was due, or the outcome of the error.
 pub fn attempts<L: Log>(cache: &mut PageCache<L>) -> Result<bool, Outcome>
     ensures { cache.new.batch ≡ cache.old.batch }
 {
@@ -311,7 +312,7 @@ pub fn attempts<L: Log>(cache: &mut PageCache<L>) -> Result<bool, Outcome>
     }
 }
 
-/// Whether a message was due, and its page wasn't refused.
+/// Attempts a move, and returns whether a message was due and there was no error.
 pub fn moves_one<L: Log>(cache: &mut PageCache<L>) -> bool
     ensures { cache.new.batch ≡ cache.old.batch }
 {
@@ -321,7 +322,7 @@ pub fn moves_one<L: Log>(cache: &mut PageCache<L>) -> bool
     }
 }
 
-/// Whether no message was due.
+/// Attempts a move, and returns whether no message was due and there was no error.
 pub fn idles<L: Log>(cache: &mut PageCache<L>) -> bool
     ensures { cache.new.batch ≡ cache.old.batch }
 {
@@ -331,7 +332,7 @@ pub fn idles<L: Log>(cache: &mut PageCache<L>) -> bool
     }
 }
 
-/// Whether so many messages were due, one after another, and none of their pages was refused.
+/// Attempts `count` moves, and returns whether a message was due for each and there was no error.
 pub fn moves<L: Log>(cache: &mut PageCache<L>, count: u32) -> bool {
     for _ in 0..count {
         if !moves_one(cache) {

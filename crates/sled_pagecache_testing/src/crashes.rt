@@ -1,4 +1,4 @@
-//! A caller of the law on crashes of caches over the log in memory.
+//! A caller of the law on crashes, for caches over the log in memory.
 
 ghost use Rattle.std.specs.Prelude.{◌≡◌, false, IfOk};
 ghost use Rattle.sled_log.specs.Events.{IsFair};
@@ -20,8 +20,8 @@ use sled_pagecache::laws::a_crash_reopens_to_a_prefix;
 use sled_pagecache::{Config, PageCache};
 use std::alloc::Global;
 
-/// The cache that is opened over what a crash leaves of the log of another, where so many of the pending events came: whatever call
-/// it made last, the pages after a prefix of the changes.
+/// Opens a cache over what a crash leaves of the log of another cache, if the crash keeps `n` of the pending events. Whatever call the
+/// other cache ran last, the new one has the pages after a prefix of the changes.
 pub fn reopen(
     alloc: Global,
     config: Config,

@@ -18,24 +18,24 @@ pub type Disked = PageCache<DiskLog<MemDisk>>;
 #[derive(Clone, Copy)]
 pub enum Part {
     Plain(&'static [Step]),
-    /// Changes in a batch, which is sealed.
+    /// Changes in a batch, which is sealed then.
     Sealed(&'static [Step]),
-    /// The same, which is cancelled.
+    /// Changes in a batch, which is cancelled then.
     Cancelled(&'static [Step]),
-    /// So many sealed batches of no changes.
+    /// This many sealed batches of no changes.
     Marks(u32),
-    /// The cache is opened again over its disk.
+    /// The cache is reopened over its disk.
     Again,
 }
 
-/// A disk of so much room, on which a log was created.
+/// Makes a disk with room for `limit` written bytes, and for `limit` writes and syncs, and creates a log on it.
 pub fn new_disk(alloc: Global, limit: usize) -> Option<MemDisk> {
     let mut disk = MemDisk::new(alloc, limit).ok()?;
     DiskLog::create(&mut disk).ok()?;
     Some(disk)
 }
 
-/// A cache over the log of a disk, which comes back where none is opened.
+/// Opens a cache over the log of a disk. An error returns the disk.
 pub fn opened_on(
     alloc: Global,
     disk: MemDisk,
@@ -44,7 +44,7 @@ pub fn opened_on(
     opened_every(alloc, disk, segment_size, 0)
 }
 
-/// The same over a log that names a message for every so many.
+/// Opens a cache over the log of a disk, where the log names a message for every `clean_every` messages. An error returns the disk.
 pub fn opened_every(
     alloc: Global,
     disk: MemDisk,
@@ -60,7 +60,7 @@ pub fn opened_every(
     }
 }
 
-/// The disk of a cache, as it is.
+/// Returns the disk of a cache, as it is.
 pub fn disk_of(cache: Disked) -> Option<MemDisk> {
     log_of(cache).map(DiskLog::into_disk)
 }
@@ -121,7 +121,7 @@ fn marks<L: Log>(alloc: Global, cache: &mut PageCache<L>, count: u32) -> bool {
 
 // ---- scripts
 
-/// Whether a part of a script shows what it should.
+/// Runs a part of a script, and returns whether it shows what it should.
 pub fn shows_part<L: Log>(alloc: Global, cache: &mut PageCache<L>, part: &Part) -> bool {
     match *part {
         Part::Plain(steps) => shown(alloc, cache, steps) == steps.len(),
@@ -150,12 +150,12 @@ fn next(
     }
 }
 
-/// The cache behind a script, if each part shows what it should.
+/// Returns the cache after a script, if each part shows what it should.
 pub fn behind(alloc: Global, disk: MemDisk, segment_size: u64, parts: &[Part]) -> Option<Disked> {
     behind_every(alloc, disk, segment_size, 0, parts)
 }
 
-/// The same over a log that names a message for every so many.
+/// Returns the cache after a script, over a log that names a message for every `clean_every` messages.
 pub fn behind_every(
     alloc: Global,
     disk: MemDisk,
@@ -170,7 +170,7 @@ pub fn behind_every(
     Some(cache)
 }
 
-/// The disk of a script over a new one, if each part shows what it should.
+/// Runs a script over a new disk, and returns the disk if each part shows what it should.
 pub fn written(alloc: Global, limit: usize, segment_size: u64, parts: &[Part]) -> Option<MemDisk> {
     disk_of(behind(alloc, new_disk(alloc, limit)?, segment_size, parts)?)
 }

@@ -1,6 +1,6 @@
-//! A log in memory of which one read and one write fail, or that is full, for ever or for one message.
+//! A log in memory of which one read or one write fails, or that is full, for good or for one message.
 
-ghost use Rattle.std.specs.Prelude.{⊤, ◌≡◌, ◌==◌, ℕ, pos, [], true, length};
+ghost use Rattle.std.specs.Prelude.{⊤, ◌≡◌, ◌==◌, pos, true, length};
 ghost use Rattle.sled_log.specs.Calls.{one_more};
 ghost use Rattle.sled_log.specs.Inside.Items.{left_now, left_earlier, stable_left};
 ghost use Rattle.sled_log.specs.MemLog.State.{kept_in, state_of, clock_of, might_have_left, size_of, stable_size_of, moves_of, due_of};
@@ -12,7 +12,7 @@ ghost use Rattle.sled_log.specs.Inside.Memory.{pending_size_of};
 use sled_base::{BlobPointer, DiskPtr, LogOffset, Lsn, MessageKind, PageId, PageState};
 use sled_log::{Log, LogError, MemLog};
 
-/// Which read or write of a log fails, or which message finds it full, each counted from 1, or the room that it has.
+/// Which read or write of a log fails, or which message finds it full, each counted from 1, or how many bytes the log may have.
 #[derive(Clone, Copy)]
 pub enum Trouble {
     Never,
@@ -22,8 +22,9 @@ pub enum Trouble {
     Room(u64),
 }
 
-/// A log in memory. The read with one number fails, and the write with the other, each counted from 1, and no other. A write that
-/// fails writes nothing. It takes no message that would make it larger than it may be, and not the one with a third number.
+/// A log in memory that fails at given calls. Of its reads only the one with a given number fails, and of its writes only the one with
+/// another number, each counted from 1. A write that fails writes nothing. The log refuses each message that would make it larger than its
+/// room, and the one with a third number.
 #[derive(Drop)]
 pub struct FailingLog {
     log: MemLog,
@@ -38,7 +39,7 @@ pub struct FailingLog {
     faults: u64,
 }
 
-/// One more, unless the count is the greatest.
+/// Adds one to a count, unless it is the greatest.
 pub fn one_more(count: u64) -> u64
     ensures { result ≡ one_more count }
 {
@@ -54,7 +55,7 @@ fn is_next(count: &mut u64, number: u64) -> bool
 }
 
 impl FailingLog {
-    /// The log with this trouble, before its first call.
+    /// Makes a log with this trouble, before its first call.
     pub fn new(log: MemLog, trouble: &Trouble) -> FailingLog
         ensures usable { (⟦<FailingLog as Log>⟧.state result).usable ≡ true }
         ensures stable { (⟦<FailingLog as Log>⟧.state result).stable ≡ (state_of log).stable }
@@ -81,7 +82,7 @@ impl FailingLog {
         }
     }
 
-    /// What is left of it.
+    /// Returns the log in memory.
     pub fn into_log(self) -> MemLog {
         self.log
     }

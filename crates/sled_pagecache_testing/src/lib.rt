@@ -4,14 +4,14 @@
 //!
 //! - `caches`: new caches, and the logs that caches leave
 //! - `nodes`: links and nodes of a page
-//! - `steps`: the steps of a script, as plain data, and one function that takes them
-//! - `calls`: the calls of a cache, and what they answer
+//! - `steps`: the steps of a script, as plain data, and one function that runs them
+//! - `calls`: the calls of a cache, and what they return
 //! - `sights`: what a get of a page finds
 //! - `measuring`: how much a cache takes of its log
-//! - `saying`: what a snapshot says
+//! - `saying`: what a snapshot contains
 //! - `scripts`: scripts of steps over a log in memory
-//! - `crashes`: what is opened behind a crash
-//! - `memory`: steps that are made again where an allocation failed
+//! - `crashes`: reopening after a crash
+//! - `memory`: steps that are run again after a failed allocation
 //! - `failing`: a log of which a read or a write fails
 //! - `openings`: runs of openings over one log
 //! - `disks`: scripts over a log on a disk

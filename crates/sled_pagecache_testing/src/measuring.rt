@@ -5,7 +5,7 @@ use crate::steps::{Outcome, Shown};
 use sled_log::Log;
 use sled_pagecache::PageCache;
 
-/// The sizes of a cache: the bytes that its log takes, and those that its pages would take.
+/// Returns the sizes of a cache: the bytes that its log takes, and those that its pages would take.
 pub fn measured<L: Log>(cache: &mut PageCache<L>) -> Result<(u64, u128), Outcome> {
     match cache.space_amplification() {
         Ok(sizes) => Ok(sizes),
@@ -13,7 +13,7 @@ pub fn measured<L: Log>(cache: &mut PageCache<L>) -> Result<(u64, u128), Outcome
     }
 }
 
-/// Whether these are the sizes, and none where an allocation failed.
+/// Returns whether these are the sizes, or None if an allocation failed.
 pub fn measures<L: Log>(cache: &mut PageCache<L>, bytes: u64, pages: u128) -> Shown {
     match measured(cache) {
         Ok(sizes) => Some(sizes == (bytes, pages)),

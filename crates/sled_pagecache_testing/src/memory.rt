@@ -1,4 +1,4 @@
-//! Steps that are made a second time where an allocation failed.
+//! Steps that are run a second time if an allocation failed.
 
 use crate::caches::{CONFIG, Cache, opening};
 use crate::scripts::opened_over;
@@ -7,7 +7,7 @@ use sled_base::Error;
 use sled_log::MemLog;
 use std::alloc::Global;
 
-/// A cache over the log, which is opened a second time where an allocation failed.
+/// Opens a cache over the log, and tries a second time if an allocation failed.
 pub fn opens(alloc: Global, log: MemLog) -> Option<Cache> {
     match opening(alloc, CONFIG, log) {
         Ok(cache) => Some(cache),
@@ -16,7 +16,7 @@ pub fn opens(alloc: Global, log: MemLog) -> Option<Cache> {
     }
 }
 
-/// Whether a step shows what it should. It is made a second time where an allocation failed.
+/// Runs a step, a second time if an allocation failed, and returns whether it shows what it should.
 pub fn makes(alloc: Global, cache: &mut Cache, step: &Step) -> bool {
     match shows_page(alloc, cache, step) {
         Some(is_so) => is_so,
@@ -24,7 +24,7 @@ pub fn makes(alloc: Global, cache: &mut Cache, step: &Step) -> bool {
     }
 }
 
-/// How many steps show what they should, before the first that doesn't.
+/// Runs steps in this way, and returns how many show what they should before the first that doesn't.
 pub fn made(alloc: Global, cache: &mut Cache, steps: &[Step]) -> usize {
     for (done, step) in steps.iter().enumerate() {
         if !makes(alloc, cache, step) {
@@ -34,7 +34,7 @@ pub fn made(alloc: Global, cache: &mut Cache, steps: &[Step]) -> usize {
     steps.len()
 }
 
-/// A new cache. No message is due: a move that is added to a replacement is passed over where an allocation failed.
+/// Opens a new cache. No message is due in its log: the move after a replacement would be ignored if an allocation failed.
 pub fn new_cache(alloc: Global) -> Option<Cache> {
     opens(alloc, MemLog::new(alloc, 512, 0))
 }

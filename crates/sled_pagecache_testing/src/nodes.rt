@@ -4,7 +4,7 @@ use sled_base::IVec;
 use sled_node::{Data, Item, Leaf, Link, Node};
 use std::alloc::{AllocError, Global};
 
-/// A link that sets a key to a value.
+/// Makes a link that sets a key to a value.
 pub fn set(alloc: Global, key: &[u8], value: &[u8]) -> Result<Link, AllocError> {
     Ok(Link::Set(
         IVec::from_slice(alloc, key)?,
@@ -12,7 +12,7 @@ pub fn set(alloc: Global, key: &[u8], value: &[u8]) -> Result<Link, AllocError> 
     ))
 }
 
-/// An empty leaf of the keys between these, of which the first byte is a prefix.
+/// Makes an empty leaf of the keys between these bounds, of which the first byte is a prefix.
 pub fn node_between(alloc: Global, lo: &[u8], hi: &[u8]) -> Result<Option<Node>, AllocError> {
     let lo = IVec::from_slice(alloc, lo)?;
     let hi = IVec::from_slice(alloc, hi)?;
@@ -20,7 +20,7 @@ pub fn node_between(alloc: Global, lo: &[u8], hi: &[u8]) -> Result<Option<Node>,
     Ok(Node::from_parts(1, None, None, false, lo, hi, leaf))
 }
 
-/// Whether a node has one pair, of this stored key and this value.
+/// Returns whether a node has exactly one pair, of this stored key and this value.
 pub fn is_pair(node: &Node, key: &[u8], value: &[u8]) -> bool {
     if node.len() != 1 {
         return false;

@@ -12,7 +12,8 @@ use std::alloc::Global;
 /// A cache over a log that fails.
 pub type Faulty = PageCache<FailingLog>;
 
-/// How an opening ends: a crash keeps so many of the pending events, or the log is handed on, also where it was read so often.
+/// How an opening ends: by a crash that keeps this many of the pending events, or by passing on the log, which `Read` also requires to have
+/// been read this often.
 #[derive(Clone, Copy)]
 pub enum Ending {
     Crash(usize),
@@ -20,13 +21,13 @@ pub enum Ending {
     Read(u64),
 }
 
-/// A cache that is opened over the log that was left before, with this interval; what it shows; and how it ends.
+/// An opening over the log that was left before: the interval of ids, the trouble of the log, what the cache shows, and how it ends.
 pub type Opening<'a> = (u64, Trouble, &'a [Step], Ending);
 
-/// Openings over a new log, with a name.
+/// The name of a run, and its openings over a new log.
 pub type Run = (&'static str, &'static [Opening<'static>]);
 
-/// A cache that is opened over a log with this interval and this trouble.
+/// Opens a cache over a log with this interval and this trouble. An error returns the log.
 pub fn opened_with(
     alloc: Global,
     log: MemLog,
@@ -44,7 +45,8 @@ pub fn opened_with(
     PageCache::start(alloc, config, log)
 }
 
-/// The log that is left, if so many of its pending events may be kept, or it was read so often.
+/// Returns the log that an ending leaves, or None if a crash can't keep that many of the pending events, or if the log wasn't read that
+/// often.
 pub fn ended(log: FailingLog, ending: &Ending) -> Option<MemLog> {
     let reads = log.reads();
     let log = log.into_log();
@@ -83,12 +85,12 @@ fn left_by(alloc: Global, log: MemLog, opening: &Opening<'_>) -> Option<MemLog> 
     }
 }
 
-/// How many openings show what they should, before the first that doesn't.
+/// Runs openings over a new log, and returns how many show what they should before the first that doesn't.
 pub fn lasts(alloc: Global, openings: &[Opening<'_>]) -> usize {
     lasts_over(alloc, MemLog::new(alloc, 512, 16), openings)
 }
 
-/// The same, where the first is over this log.
+/// Runs openings over this log, and returns how many show what they should before the first that doesn't.
 pub fn lasts_over(alloc: Global, log: MemLog, openings: &[Opening<'_>]) -> usize {
     let mut log = log;
     for (done, opening) in openings.iter().enumerate() {
@@ -100,7 +102,7 @@ pub fn lasts_over(alloc: Global, log: MemLog, openings: &[Opening<'_>]) -> usize
     openings.len()
 }
 
-/// The first run of which an opening doesn't show what it should, and how many do so before.
+/// Returns the name of the first run with an opening that doesn't show what it should, and how many openings do before that one.
 pub fn first_wrong_run(alloc: Global, runs: &[Run]) -> Option<(&'static str, usize)> {
     for (name, openings) in runs {
         let done = lasts(alloc, openings);

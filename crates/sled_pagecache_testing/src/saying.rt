@@ -1,4 +1,4 @@
-//! What a snapshot of a cache says of its log.
+//! What a snapshot of a cache contains.
 
 use crate::calls::outcome_of;
 use crate::steps::{Outcome, Shown};
@@ -7,7 +7,8 @@ use sled_base::{DiskPtr, Error, Lsn, PageState};
 use sled_log::Log;
 use sled_pagecache::{PageCache, Snapshot};
 
-/// A page: by the places and the sizes of its messages, or free by the place of the one that freed it. The lsn of each is its place.
+/// A page in a snapshot: the places and the sizes of its messages, or, if it is free, the place of the message that freed it. The lsn of
+/// each message is its place.
 #[derive(Clone, Copy)]
 pub enum Said {
     Of(&'static [(DiskPtr, u64)]),
@@ -61,7 +62,7 @@ fn are_said(snapshot: &Snapshot, stable: Lsn, pages: &[Said]) -> bool {
     true
 }
 
-/// Whether a snapshot says so, and none where an allocation failed.
+/// Returns whether a snapshot has this durable end and these pages, or None if an allocation failed.
 pub fn says<L: Log>(cache: &PageCache<L>, stable: Lsn, pages: &[Said]) -> Shown {
     match cache.take_fuzzy_snapshot() {
         Ok(snapshot) => Some(are_said(&snapshot, stable, pages)),
@@ -95,7 +96,7 @@ fn is_leaf(state: &PageState, place: u64) -> bool {
     }
 }
 
-/// Whether a snapshot says so many empty leaves, and none where an allocation failed.
+/// Returns whether a snapshot has this durable end and this many empty leaves after the system pages, or None if an allocation failed.
 pub fn says_leaves<L: Log>(cache: &PageCache<L>, stable: Lsn, leaves: u64) -> Shown {
     match cache.take_fuzzy_snapshot() {
         Ok(snapshot) => Some(are_leaves(&snapshot, stable, leaves)),
@@ -104,7 +105,7 @@ pub fn says_leaves<L: Log>(cache: &PageCache<L>, stable: Lsn, leaves: u64) -> Sh
     }
 }
 
-/// Whether there is no snapshot.
+/// Returns whether a snapshot fails with this outcome.
 pub fn is_unsaid<L: Log>(cache: &PageCache<L>, outcome: Outcome) -> bool {
     match cache.take_fuzzy_snapshot() {
         Ok(_) => false,

@@ -7,15 +7,16 @@ use sled_log::{Log, MemLog};
 use sled_pagecache::Config;
 use std::alloc::Global;
 
-/// Steps over a new log, with a name.
+/// The name of a script, and its steps over a new log.
 pub type Script = (&'static str, &'static [Step]);
 
-/// A cache over a log in which no batch is open.
+/// Opens a cache over a log. It returns None if that fails, or if a batch is open in the log.
 pub fn opened_over(alloc: Global, config: Config, log: MemLog) -> Option<Cache> {
     opening(alloc, config, log).ok()
 }
 
-/// A cache over what a crash leaves of a log that keeps so many of the pending events, if it may.
+/// Opens a cache over what a crash leaves of a log, if the crash keeps `n` of the pending events. It returns None if no crash may keep
+/// exactly these, or if the opening fails.
 pub fn left_by(alloc: Global, log: MemLog, n: usize) -> Option<Cache> {
     if !log.is_fair(n) {
         return None;
@@ -44,7 +45,7 @@ fn next(alloc: Global, mut cache: Cache, step: &Step) -> Option<Cache> {
     }
 }
 
-/// How many steps of a script show what they should, before the first that doesn't.
+/// Runs the steps of a script over a cache, and returns how many show what they should before the first that doesn't.
 pub fn walks_over(alloc: Global, cache: Cache, steps: &[Step]) -> usize {
     let mut cache = cache;
     for (done, step) in steps.iter().enumerate() {
@@ -56,12 +57,14 @@ pub fn walks_over(alloc: Global, cache: Cache, steps: &[Step]) -> usize {
     steps.len()
 }
 
-/// The same over a new log, where payloads above so many bytes are blobs.
+/// Runs the steps of a script over a new log, where payloads above `blob_limit` bytes are blobs, and returns how many show what they should
+/// before the first that doesn't.
 pub fn walks_at(alloc: Global, config: Config, blob_limit: usize, steps: &[Step]) -> usize {
     walks_in(alloc, config, MemLog::new(alloc, blob_limit, 16), steps)
 }
 
-/// The same over a log that no cache was opened over before.
+/// Runs the steps of a script over a log that no cache was opened over before, and returns how many show what they should before the first
+/// that doesn't.
 pub fn walks_in(alloc: Global, config: Config, log: MemLog, steps: &[Step]) -> usize {
     match opened_over(alloc, config, log) {
         Some(cache) => walks_over(alloc, cache, steps),
@@ -69,12 +72,13 @@ pub fn walks_in(alloc: Global, config: Config, log: MemLog, steps: &[Step]) -> u
     }
 }
 
-/// The same over a new log of the usual settings.
+/// Runs the steps of a script over a new log with the usual settings, and returns how many show what they should before the first that
+/// doesn't.
 pub fn walks(alloc: Global, steps: &[Step]) -> usize {
     walks_at(alloc, CONFIG, 512, steps)
 }
 
-/// The first script that doesn't show all that it should, and how many of its steps do so before.
+/// Returns the name of the first script that doesn't show all that it should, and how many of its steps do before the first that doesn't.
 pub fn first_wrong_at(
     alloc: Global,
     blob_limit: usize,
@@ -89,7 +93,7 @@ pub fn first_wrong_at(
     None
 }
 
-/// The same, where payloads above 512 bytes are blobs.
+/// Does the same with a limit of 512 bytes, above which payloads are blobs.
 pub fn first_wrong(alloc: Global, scripts: &[Script]) -> Option<(&'static str, usize)> {
     first_wrong_at(alloc, 512, scripts)
 }

@@ -7,7 +7,7 @@ use sled_log::Log;
 use sled_node::{Item, Node};
 use sled_pagecache::PageCache;
 
-/// Whether a get of a page finds this, and none where an allocation failed.
+/// Returns whether a get of a page finds this, or None if an allocation failed.
 pub fn gets<L: Log>(cache: &mut PageCache<L>, pid: PageId, sight: &Sight) -> Shown {
     match cache.get(pid) {
         Ok(Some(view)) => {

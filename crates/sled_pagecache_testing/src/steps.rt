@@ -14,7 +14,7 @@ use sled_node::Node;
 use sled_pagecache::PageCache;
 use std::alloc::Global;
 
-/// What a call answered.
+/// What a call returned.
 #[derive(Clone, Copy, PartialEq)]
 pub enum Outcome {
     Done,
@@ -22,11 +22,11 @@ pub enum Outcome {
     Made(PageId, u64),
     /// The new stamp of the page.
     At(u64),
-    /// The present stamp of the page; a link or a node comes back as it was given.
+    /// The current stamp of the page. A link or a node is returned as it was given.
     Stale(u64),
     /// There is no such page.
     Gone,
-    /// The root that a name has in place of that which was told.
+    /// The root that a name has instead of the expected one.
     Is(Option<PageId>),
     /// A generated id, or the root of a tree.
     Id(u64),
@@ -61,21 +61,21 @@ pub enum Sight {
     Pair(u64, &'static [u8], &'static [u8]),
     /// A leaf of these pairs, at this stamp.
     Pairs(u64, &'static [(&'static [u8], &'static [u8])]),
-    /// A node of so many pairs, at this stamp.
+    /// A node of this many pairs, at this stamp.
     Holds(u64, usize),
-    /// A node that gives each of these letters the value of `PAIR`, and has no other key, at this stamp.
+    /// A node that maps each of these letters to the value of `PAIR`, and has no other key, at this stamp.
     Letters(u64, &'static [u8]),
-    /// A node of the keys between these, of which the first byte is a prefix.
+    /// A node of the keys between these bounds, of which the first byte is a prefix.
     Between(&'static [u8], &'static [u8]),
     /// An index that leads each key to this leaf, at this stamp.
     Leads(u64, PageId),
     /// No page.
     Absent,
-    /// A page that is not lent, since it is the cache's own.
+    /// A page whose node is refused, since the page is the cache's own.
     Reserved,
-    /// That a read failed.
+    /// A failed read.
     Unread,
-    /// That a write failed before.
+    /// An earlier write error.
     Unwritten,
 }
 
@@ -88,22 +88,22 @@ pub const LONG: &[u8] = &[b'l'; 23];
 /// A step of a script, and what it shows.
 #[derive(Clone, Copy)]
 pub enum Step {
-    /// The log held a cache before, or not.
+    /// The log held a cache before, or didn't.
     Recovered(bool),
     /// An empty leaf goes to this page, at this stamp.
     Adds(PageId, u64),
-    /// The same for pages from this one on and up to another.
+    /// An empty leaf goes to each page from this one up to but not including the other, at stamp 1.
     AddsFrom(PageId, PageId),
     AddsNone(Outcome),
-    /// An empty leaf of the keys between these, of which the first byte is a prefix, goes to this page, at stamp 1.
+    /// An empty leaf of the keys between these bounds, of which the first byte is a prefix, goes to this page, at stamp 1.
     AddsBetween(PageId, &'static [u8], &'static [u8]),
     /// A link by a token of this stamp.
     Links(PageId, u64, Change, Outcome),
-    /// So many links of one pair, by tokens of this stamp and the following.
+    /// Links of one pair, by tokens of this stamp and the following ones; the last number is how many.
     LinksFrom(PageId, u32, u32),
     /// A replacement by an empty leaf, by a token of this stamp.
     Replaces(PageId, u64, Outcome),
-    /// The same by a leaf of one pair.
+    /// A replacement by a leaf of one pair, by a token of this stamp.
     ReplacesByPair(PageId, u64, Outcome),
     Frees(PageId, u64, Outcome),
     Gets(PageId, Sight),
@@ -113,52 +113,52 @@ pub enum Step {
     Opens(&'static [u8], Outcome),
     /// The name has this root.
     Finds(&'static [u8], PageId),
-    /// The name has none, and is reported.
+    /// The name has no root, and the error holds the name.
     Lacks(&'static [u8]),
-    /// There are so many names, on a page with this stamp.
+    /// There are this many names, on a page with this stamp.
     Has(usize, u64),
-    /// So many ids come, from this one on.
+    /// Ids are generated, from this one on; the last number is how many.
     Gives(u64, u64),
-    /// No id comes.
+    /// No id is generated.
     Refuses(Outcome),
     /// The counter is this, on a page with this stamp.
     Counts(u64, u64),
-    /// A write failed, and the counter isn't answered.
+    /// A write failed, so the counter isn't returned.
     Hides,
-    /// The log takes so many bytes.
+    /// The log takes this many bytes.
     Takes(u64),
     Flushes,
-    /// A flush writes so many bytes.
+    /// A flush writes this many bytes.
     Writes(usize),
-    /// The log takes so many bytes, and the pages would take so many.
+    /// The log takes the first number of bytes, and the pages would take the second.
     Measures(u64, u128),
-    /// The pages aren't measured.
+    /// Measuring the pages fails.
     Unmeasured(Outcome),
-    /// So many messages are due, one after another, and none of their pages is refused.
+    /// This many messages are due, one after another, and no move fails.
     Moves(u32),
-    /// None is.
+    /// No message is due.
     Idles,
-    /// One is, and its page isn't moved.
+    /// A message is due, and moving its page fails.
     Unmoved(Outcome),
-    /// A snapshot says how far the log is durable, and each page.
+    /// A snapshot has this durable end of the log, and these pages.
     Says(Lsn, &'static [Said]),
-    /// The same of a log in memory, where behind the system pages only so many empty leaves were added.
+    /// A snapshot of a log in memory has this durable end, and after the system pages only this many empty leaves.
     SaysLeaves(Lsn, u64),
-    /// A write failed, and neither a flush nor the size of the log nor anything else of it is answered.
+    /// A write failed, so a flush, the size of the log, the size of the pages and a snapshot return that error.
     Faults,
-    /// The cache is shown so.
+    /// The cache prints as this text.
     Prints(&'static str),
-    /// The cache is not opened.
+    /// Opening the cache fails.
     Unopened(Outcome),
-    /// The cache is opened again over its log.
+    /// The cache is reopened over its log.
     Reopens,
-    /// The same where the log was read so often.
+    /// The log was read this often, and the cache is reopened over it.
     Reads(u64),
-    /// A crash leaves so many of the pending changes, and the cache is opened again.
+    /// A crash keeps this many of the pending events, and the cache is reopened.
     Crashes(usize),
 }
 
-/// Whether a step showed what it should, and none where an allocation failed.
+/// Whether a step showed what it should, or None if an allocation failed.
 pub type Shown = Option<bool>;
 
 fn is(found: Outcome, wanted: &Outcome) -> Shown {
@@ -168,7 +168,7 @@ fn is(found: Outcome, wanted: &Outcome) -> Shown {
     Some(found == *wanted)
 }
 
-/// Whether a step shows what it should, and none where an allocation failed.
+/// Runs a step, and returns whether it shows what it should, or None if an allocation failed.
 pub fn shows_page<L: Log>(alloc: Global, cache: &mut PageCache<L>, step: &Step) -> Shown {
     match step {
         Step::Adds(pid, stamp) => is(
@@ -238,12 +238,12 @@ fn shows_log<L: Log>(cache: &mut PageCache<L>, step: &Step) -> Shown {
     }
 }
 
-/// Whether a step shows what it should.
+/// Runs a step, and returns whether it shows what it should; a failed allocation counts as not.
 pub fn shows<L: Log>(alloc: Global, cache: &mut PageCache<L>, step: &Step) -> bool {
     shows_page(alloc, cache, step) == Some(true)
 }
 
-/// How many steps show what they should, before the first that doesn't.
+/// Runs steps, and returns how many show what they should before the first that doesn't.
 pub fn shown<L: Log>(alloc: Global, cache: &mut PageCache<L>, steps: &[Step]) -> usize {
     for (done, step) in steps.iter().enumerate() {
         if !shows(alloc, cache, step) {

@@ -7,7 +7,7 @@ use sled_base::{DiskPtr, Lsn, PageId, PageState};
 use sled_pagecache::{Page, PageTable};
 use std::alloc::{AllocError, Global};
 
-/// A free page, which was freed by a message of this lsn.
+/// Makes a free page, which was freed by a message of this lsn.
 pub fn page(alloc: Global, lsn: Lsn) -> Result<Page, AllocError> {
     Page::from_state(alloc, &PageState::Free(lsn, DiskPtr::Inline(0)))
 }
@@ -24,7 +24,7 @@ fn put_in(table: &mut PageTable, pid: PageId, page: Page) -> Result<(), AllocErr
     table.insert(pid, page).map_err(|refused| refused.1)
 }
 
-/// A table of so many pages.
+/// Makes a table of `count` free pages.
 pub fn table_of(alloc: Global, count: u64) -> Result<PageTable, AllocError>
     requires { count ≤ most_pages }
     ensures { IfOk result (λ table. length table.pages ≡ count) }
@@ -36,7 +36,7 @@ pub fn table_of(alloc: Global, count: u64) -> Result<PageTable, AllocError>
     Ok(table)
 }
 
-/// The lsn of the page at an id, if there is one.
+/// Returns the lsn of the page at an id, if there is one.
 pub fn lsn_at(table: &PageTable, pid: PageId) -> Option<Lsn> {
     table.get(pid).map(|page| page.last_lsn())
 }

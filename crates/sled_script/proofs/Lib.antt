@@ -6,6 +6,5 @@ pub mod Batches
 pub mod Commands
 pub mod Marks
 pub mod Replied
-pub mod Leaves
 pub mod Job
 pub mod OverDisk

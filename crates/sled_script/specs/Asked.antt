@@ -1,4 +1,4 @@
--- What a command's name and the text behind it ask for.
+-- What a command's name and the text after it ask for.
 use Rattle.std.specs.Prelude.{◌≡◌, ℕ, List, [], ◌∷◌, Option, None, Some}
 use Rattle.std.specs.Fmt.{decimal}
 use Rattle.std.specs.List.{join_with_byte}
@@ -6,20 +6,20 @@ use Rattle.sled_base.specs.Order.{Bytes}
 use Rattle.sled_node.specs.Node.{WholeNode}
 use Rattle.sled_pagecache.specs.State.{Token, pid_of, stamp_of}
 use Rattle.sled_pagecache.specs.declared.pagecache.handles.call.Call.{Call}
-use Rattle.sled_lines.specs.Words.{after_name, HasNoSpace}
+use Rattle.sled_lines.specs.Words.{after_name}
 use Rattle.sled_script.specs.Commands.{Asks, IsLeafOf, IsRootNumber, IsToken, root_word}
 use Rattle.sled_script.specs.Pairs.{EncodePairs}
 
--- the name and the words in the text behind it ask for the call
+-- the name, and the words in the text after it, ask for the call
 abbrev pub AsksBehind : Bytes → Option Bytes → Call → Type 0
 AsksBehind name text call = (words : List Bytes) × Asks (name ∷ words) call × (text ≡ after_name words)
 
--- a text, where there is one, as the last of some words
+-- a text, if there is one, as the last of some words
 abbrev pub at_the_end : Option Bytes → List Bytes
 at_the_end None = []
 at_the_end (Some rest) = rest ∷ []
 
--- the text is the two words of a token, and then a space and the rest, where there is one
+-- the text is the two words of a token, followed by a space and the rest, if there is a rest
 pub record BeginsWithToken (text : Option Bytes) (old : Token) (rest : Option Bytes) : Type 0 where
   pub token : IsToken old
   pub joined : text ≡ after_name (decimal (pid_of old) ∷ decimal (stamp_of old) ∷ at_the_end rest)

@@ -1,4 +1,4 @@
--- What a line of the script asks for: a call, a tree to be opened, or a mark of a batch.
+-- What a line of the script asks for: a call, opening a tree, or a mark of a batch.
 use Rattle.std.specs.Prelude.{◌≡◌, ◌<◌, ◌≤◌, ◌^◌, Bool, true, List, [], ◌∷◌, length, map, codes, ℕ, Option, None, Some, ⊤}
 use Rattle.std.specs.Fmt.{decimal}
 use Rattle.std.specs.List.{join_with_byte}
@@ -15,7 +15,7 @@ use Rattle.sled_script.specs.Pairs.{pair_word, ArePairs}
 use Rattle.sled_script.specs.declared.command.Mark.{Mark}
 use Rattle.sled_script.specs.declared.command.Mark.TheVariants as mark
 
--- a leaf of these pairs over all keys: the keys rise strictly, and the limits of a node hold
+-- a leaf of these pairs over all keys: the keys are strictly ascending, and the limits of a node hold
 pub record IsLeafOf (pairs : List (Bytes × Bytes)) (node : WholeNode) : Type 0 where
   pub bytes : ArePairs pairs
   pub fits : HasPairs IsWithinLimit pairs
@@ -91,7 +91,7 @@ MayMark is_open mark.Pin = ⊤
 MayMark is_open mark.Seal = is_open ≡ true
 MayMark is_open mark.Cancel = is_open ≡ true
 
--- the command may be asked for, where a batch is open or isn't
+-- the command may be asked for, given whether a batch is open
 abbrev pub MayAsk : Bool → Command → Type 0
 MayAsk is_open (ForMark mark) = MayMark is_open mark
 MayAsk is_open asked = ⊤

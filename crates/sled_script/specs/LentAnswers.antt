@@ -1,4 +1,4 @@
--- The answers that are lent to a reply, as answers.
+-- The answers that a reply borrows, as answers.
 use Rattle.sled_pagecache.specs.Lending.{lent_answer}
 use Rattle.sled_pagecache.specs.declared.pagecache.handles.call.Answer.{Answer}
 use Rattle.sled_pagecache.specs.declared.pagecache.handles.call.Answer.TheVariants.{Allocated, Got, Replaced, Freed, FoundRoot, RootSwapped, Generated, Flushed, Sized, Amplified, AttemptedGc}

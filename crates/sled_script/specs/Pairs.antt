@@ -8,7 +8,7 @@ use Rattle.sled_lines.specs.Words.{AreBytes, after_name, bytes_word}
 abbrev pub pair_word : Bytes × Bytes → Bytes
 pair_word pair = bytes_word pair.0 ++ codes "=" ++ bytes_word pair.1
 
--- the words behind a command's name encode these pairs, a word each
+-- the words after a command's name encode these pairs, a word each
 abbrev pub EncodePairs : Option Bytes → List (Bytes × Bytes) → Type 0
 EncodePairs words pairs = words ≡ after_name (map pair_word pairs)
 

@@ -22,14 +22,15 @@ use Rattle.sled_script.specs.declared.command.Mark.TheVariants as mark
 use Rattle.sled_script.specs.declared.run.RunError.{RunError}
 use Rattle.sled_script.specs.declared.run.RunError.TheVariants.{Read, Write, Memory}
 
--- What was done for a line: nothing; or a call was made, which answered so; or a tree was opened, by these calls, which gave that root; or a batch was opened or closed, which answered so.
+-- What was done for a line: nothing; or a call was made, with this answer; or a tree was opened by these calls, with this root; or a batch was opened
+-- or closed, with this answer.
 pub data Served : Type 0 where
   Nothing : Served
   Made : Call → Answer → Served
   Opened : List (Call × Answer) → Result ℕ Error → Served
   Marked : Mark → Result (Unit {0}) Error → Served
 
--- whether a batch is open behind what was done for a line, and for several
+-- whether a batch is open after what was done for a line, and for several
 abbrev pub is_open_after : Bool → Served → Bool
 is_open_after is_open Nothing = is_open
 is_open_after is_open (Made call answer) = is_open
@@ -83,33 +84,34 @@ calls_by (Marked mark result) = call_of_mark mark result ∷ []
 abbrev pub calls_of : List Served → List (Call × Answer)
 calls_of served = flat_map calls_by served
 
--- a batch that is left open is cancelled, whatever that answers
+-- a batch that is left open is cancelled, whatever the answer is
 abbrev pub AreClosing : Bool → List (Call × Answer) → Type 0
 AreClosing false calls = calls ≡ []
 AreClosing true calls = (result : Result (Unit {0}) Error) × (calls ≡ (Cancel, Cancelled result) ∷ [])
 
--- What ended a run behind the lines that were answered: the input was not read; an allocation failed for one more line; or a reply was not written.
+-- What ended a run after the lines that were answered: the input could not be read; an allocation failed for one more line; or a reply could not be
+-- written.
 abbrev pub Ends : RunError → List Bytes → List Bytes → Type 0
 Ends Read answered others = ⊤
 Ends Memory answered others = others ≢ []
 Ends Write answered others = answered ≢ []
 
--- Each line of a known input was answered, in their order; at an error a prefix of them was.
+-- Each line of a known input was answered, in order; after an error a prefix of them was.
 abbrev pub Answers : Type 0 → Bool → Option Bytes → Result Unit RunError → List Served → Type 0
 Answers found_another is_open None result served = ⊤
 Answers found_another is_open (Some input) (Ok done) served = AskFor found_another is_open (lines_of input) served
 Answers found_another is_open (Some input) (Err e) served = (answered others : List Bytes) × (lines_of input ≡ answered ++ others) × AskFor found_another is_open answered served × Ends e answered others
 
--- The text was written; where writing or flushing it failed, a prefix of it.
+-- The text was written; if writing or flushing it failed, a prefix of it.
 abbrev pub IsWritten : Result Unit RunError → Option Bytes → Option Bytes → Bytes → Type 0
 IsWritten (Ok done) old new text = Appends old new text
 IsWritten (Err Read) old new text = Appends old new text
 IsWritten (Err Memory) old new text = Appends old new text
 IsWritten (Err Write) old new text = AppendsPrefix old new text
 
--- What a run makes of an input: the calls that the lines ask for are made, and are steps in a row, and the replies to their
--- answers are written, one line to each line. A batch that is left open is cancelled, without a reply, so none is open behind it. Where
--- the cache is in a state, no opening of a tree finds another root.
+-- What a run does with an input: it makes the calls that the lines ask for, which are steps in a row, and writes the replies to their answers, one
+-- line for each line. A batch that is left open is cancelled without a reply, so none is open afterwards. If the cache is in a state, no opening of a
+-- tree finds another root.
 pub record Serves {L : Type 0} (g : Ghosts L) (cache : Cache L) (input old new : Option Bytes) (result : Result Unit RunError) (after : Cache L) : Type 0 where
   pub served : List Served
   pub answers : Answers (¬ IsKnown g cache) cache.batch input result served
@@ -120,7 +122,7 @@ pub record Serves {L : Type 0} (g : Ghosts L) (cache : Cache L) (input old new :
   pub closed : after.batch ≡ false
   pub written : IsWritten result old new (text_of served)
 
--- the error that ends a run where a line was not read
+-- the error that ends a run if a line was not read
 abbrev pub run_error_of : ReadError → RunError
 run_error_of unread.Read = Read
 run_error_of unread.Memory = Memory

@@ -24,59 +24,59 @@ use Rattle.sled_script.specs.declared.run.RunError.TheVariants.{Read, Write, Mem
 use Rattle.sled_script.specs.declared.run.Stop.{Stop}
 use Rattle.sled_script.specs.declared.run.Stop.TheVariants as stop
 
--- The replies to all lines that were answered are gathered behind what waited; where writing failed, a prefix of them was written.
+-- The replies to all lines that were answered are appended to the piece; if writing failed, a prefix of them was written.
 abbrev pub AreGathered : Result Unit RunError → Option Bytes → Option Bytes → Bytes → Bytes → Bytes → Type 0
 AreGathered (Ok done) old new before waits text = Gathered old new before waits text
 AreGathered (Err Read) old new before waits text = Gathered old new before waits text
 AreGathered (Err Memory) old new before waits text = Gathered old new before waits text
 AreGathered (Err Write) old new before waits text = AppendsPrefix old new (before ++ text)
 
--- some first lines of a known input were answered, and the rest is left
+-- the first lines of a known input were answered, and the rest is left
 abbrev pub IsBehind : Type 0 → Bool → Option Bytes → Option Bytes → List Served → Type 0
 IsBehind found_another is_open None rest served = ⊤
 IsBehind found_another is_open (Some input) None served = ⊥
 IsBehind found_another is_open (Some input) (Some rest) served = (answered : List Bytes) × (lines_of input ≡ answered ++ lines_of rest) × AskFor found_another is_open answered served
 
--- the next line, where the input is known, is this
+-- the next line is this one, if the input is known
 abbrev pub IsNext : Option Bytes → Option Bytes → Bytes → Type 0
 IsNext None rest line = ⊤
 IsNext (Some input) None line = ⊥
 IsNext (Some input) (Some rest) line = lines_of input ≡ line ∷ lines_of rest
 
--- the mark opens a batch where none is open, or closes the one that is
+-- the mark opens a batch when none is open, or closes the open one
 abbrev pub Turns : Bool → Mark → Type 0
 Turns is_open mark.Pin = is_open ≡ false
 Turns is_open mark.Seal = is_open ≡ true
 Turns is_open mark.Cancel = is_open ≡ true
 
--- what a line comes to whose reply was put, or not written
+-- the result of a line whose reply was appended, or could not be written
 abbrev pub answered : {E : Type 0} → Result Unit E → Result (Option Mark) RunError
 answered (Ok done) = Ok None
 answered (Err e) = Err Write
 
 module _ {L : Type 0} (g : Ghosts L) where
-  -- the call is made, and the reply to its answer is put as a line behind what waits
+  -- the call is made, and the reply to its answer is appended to the piece as a line
   pub record RepliesTo {E : Type 0} (cache : Cache L) (call : Call) (old new : Option Bytes) (before waits : Bytes) (result : Result Unit E) (after : Cache L) : Type 0 where
     pub answer : Answer
     pub made : IsMade g cache call answer after
     pub batch : after.batch ≡ cache.batch
     pub written : Gathers old new before waits result (reply_of answer ++ 10 ∷ [])
 
-  -- the calls are made, and without one the cache is left
+  -- the calls are made, and if there are none, the cache is unchanged
   abbrev pub Goes : Cache L → Served → Cache L → Type 0
   Goes cache Nothing after = after ≡ cache
   Goes cache (Made call answer) after = IsMade g cache call answer after
   Goes cache (Opened calls root) after = AreMade g cache calls after × StepInRow g cache calls after
   Goes cache (Marked mark result) after = IsMade g cache (call_of_mark mark result).0 (call_of_mark mark result).1 after
 
-  -- The line asks for this, which is done.
+  -- The line asks for this, and it is done.
   pub record IsServed (cache : Cache L) (line : Bytes) (one : Served) (after : Cache L) : Type 0 where
     pub asks : AsksFor (¬ IsKnown g cache) cache.batch line one
     pub goes : Goes cache one after
     pub batch : after.batch ≡ is_open_after cache.batch one
 
-  -- The line is answered, and the reply is put as a line behind what waits, or where that is not written, a prefix is. Or it is that
-  -- of a mark, and is left to be answered; or an allocation failed for it. Then nothing is changed or put.
+  -- The line is answered, and its reply is appended to the piece as a line, or if that can't be written, a prefix of it is. Or the line is that of a
+  -- mark, which is left to be served; or an allocation failed for it. Then nothing is changed or appended.
   abbrev pub RepliesLine : Cache L → Bytes → Option Bytes → Option Bytes → Bytes → Bytes → Result (Option Mark) RunError → Cache L → Type 0
   RepliesLine cache line old new before waits (Ok None) after = (one : Served) × IsServed cache line one after × Gathered old new before waits (reply_to one ++ 10 ∷ [])
   RepliesLine cache line old new before waits (Ok (Some mark)) after = (line ≡ mark_word mark) × Turns cache.batch mark × (after ≡ cache) × Gathered old new before waits []
@@ -84,11 +84,11 @@ module _ {L : Type 0} (g : Ghosts L) where
   RepliesLine cache line old new before waits (Err Memory) after = (after ≡ cache) × Gathered old new before waits []
   RepliesLine cache line old new before waits (Err Read) after = ⊥
 
-  -- so is a line of this name and the text behind it
+  -- the same of a line of this name and the text after it
   abbrev pub RepliesBehind : Cache L → Bytes → Option Bytes → Option Bytes → Option Bytes → Bytes → Bytes → Result (Option Mark) RunError → Cache L → Type 0
   RepliesBehind cache name text old new before waits result after = (line : Bytes) → length line ≤ longest_line → BeginsLine line name text → RepliesLine cache line old new before waits result after
 
-  -- Some first lines of the input were answered, by calls that are steps in a row, and just their replies were gathered.
+  -- The first lines of the input were answered, by calls that are steps in a row, and exactly their replies were gathered.
   pub record HasServed (cache : Cache L) (input rest old new : Option Bytes) (before waits : Bytes) (after : Cache L) : Type 0 where
     pub served : List Served
     pub behind : IsBehind (¬ IsKnown g cache) cache.batch input rest served
@@ -97,7 +97,7 @@ module _ {L : Type 0} (g : Ghosts L) where
     pub batch : after.batch ≡ is_open_behind cache.batch served
     pub written : Gathered old new before waits (text_of served)
 
-  -- What is made of an input, where the last replies wait to be written, and a batch may be left open.
+  -- What is done with an input, if the last replies are still in the piece, and a batch may be left open.
   pub record ServesLines (cache : Cache L) (input old new : Option Bytes) (before waits : Bytes) (result : Result Unit RunError) (after : Cache L) : Type 0 where
     pub served : List Served
     pub answers : Answers (¬ IsKnown g cache) cache.batch input result served
@@ -112,13 +112,13 @@ module _ {L : Type 0} (g : Ghosts L) where
   ServesUntil cache input rest old new before waits (Ok (stop.At mark is_followed)) after = (front : Option Bytes) × HasServed cache input front old new before waits after × IsNext front rest (mark_word mark) × Turns after.batch mark
   ServesUntil cache input rest old new before waits (Err e) after = ServesLines cache input old new before waits (Err e) after
 
-  -- a batch that is open is cancelled, and without one the cache is left
+  -- an open batch is cancelled, and if none is open, the cache is unchanged
   abbrev pub CancelsOpen : Cache L → Cache L → Type 0
   CancelsOpen cache after =
       ((cache.batch ≡ false) × (after ≡ cache))
       ⊎ ((cache.batch ≡ true) × ((result : Result (Unit {0}) Error) × IsMade g cache Cancel (Cancelled result) after × (after.batch ≡ false)))
 
-  -- What is made of all lines.
+  -- What is done with all lines.
   pub record ServesAll (cache : Cache L) (input old new : Option Bytes) (before waits : Bytes) (result : Result Unit RunError) (after : Cache L) : Type 0 where
     pub left : Cache L
     pub lines : ServesLines cache input old new before waits result left
@@ -129,7 +129,7 @@ module _ {L : Type 0} (g : Ghosts L) where
     pub made : IsMade g cache Pin (Pinned (Ok tt)) after
     pub batch : after.batch ≡ true
 
-  -- The line that opens a batch is answered, and those behind it up to the one that closes the batch; or all of them, without one.
+  -- The line that opens a batch is answered, and the lines after it up to the one that closes the batch; or all of them, if none closes it.
   abbrev pub ServesBatch : Cache L → Option Bytes → Option Bytes → Option Bytes → Option Bytes → Bytes → Bytes → Result Bool RunError → Cache L → Type 0
   ServesBatch cache input rest old new before waits (Ok true) after = HasServed cache input rest old new before waits after × (after.batch ≡ false)
   ServesBatch cache input rest old new before waits (Ok false) after = ServesAll cache input old new before waits (Ok tt) after

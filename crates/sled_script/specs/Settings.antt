@@ -1,4 +1,4 @@
--- The numbers of the program.
+-- The constants of the program.
 use Rattle.std.specs.Prelude.{ℕ, Result, Ok, Err}
 use Rattle.sled_pagecache.specs.declared.pagecache.handles.config.Config.{Config}
 
@@ -6,16 +6,16 @@ use Rattle.sled_pagecache.specs.declared.pagecache.handles.config.Config.{Config
 abbrev pub settings : Config
 settings = record { cache_capacity = 1048576; idgen_persist_interval = 10; segment_size = 4096 }
 
--- those of its log in memory: payloads above so many bytes are blobs, and a page is to be moved for so many messages
+-- those of its log in memory: larger payloads are blobs, and one page is due to be moved for each of this many messages
 abbrev pub log_settings : ℕ × ℕ
 log_settings = (512, 16)
 
--- the text of a short entry has at most so many bytes
+-- the greatest length of the text of a short entry
 abbrev pub entry_room : ℕ
 entry_room = 160
 
--- the status where what the words ask for was done, where that or the reading of them failed, and where they are wrong; and where they
--- are right that of what they ask for
+-- The statuses: what the arguments ask for was done; it failed, or reading the arguments failed; the arguments are wrong. If they are right, the
+-- status is that of what they ask for.
 abbrev pub ended : ℕ
 ended = 0
 

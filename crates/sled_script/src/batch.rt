@@ -20,8 +20,9 @@ use sled_pagecache::{Error, Log, PageCache, RecoveryGuard};
 use std::alloc::Global;
 use std::io::{BufRead, Write};
 
-/// Opens a batch for a line that was read, and serves the lines up to the one that closes it, and answers whether one did. At the end of
-/// the input and at an error the batch is cancelled. The last replies may be left in the piece.
+/// Opens a batch for the line that was read, and serves the lines up to the one that closes it. Returns `true` if a line closed the batch, or if
+/// the batch could not be opened, and `false` if the input ended. At the end of the input and at an error the batch is cancelled. The last replies
+/// may still be in the piece.
 pub fn serve_batch<L: Log, R: BufRead, W: Write>(
     alloc: Global,
     cache: &mut PageCache<L>,
@@ -93,7 +94,7 @@ fn close<L: Log>(guard: RecoveryGuard<'_, L>, mark: Mark) -> Result<(), Error>
     }
 }
 
-/// Asks for a second batch, which is refused.
+/// Tries to open a second batch, which fails, and returns the error.
 pub fn pin_again<L: Log>(cache: &mut PageCache<L>) -> Result<(), Error>
     requires { cache.old.batch ≡ true }
     ensures opens { OpensBatch L.Log cache.old result cache.new }

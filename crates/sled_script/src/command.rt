@@ -1,9 +1,8 @@
-//! What the words behind a command's name ask for.
+//! Parsing the words after a command's name.
 
-ghost use Rattle.std.specs.Prelude.{◌≡◌, map, codes, Some, IfOk, IfSome, IfNone};
-ghost use Rattle.std.specs.Option.{option_map, SomeIff};
-ghost use Rattle.sled_node.specs.Node.{Value, WholeNode, leaf_of};
-ghost use Rattle.sled_node.specs.Pairs.{IsWithinLimit, HasPairs};
+ghost use Rattle.std.specs.Prelude.{codes, Some, IfOk, IfSome, IfNone};
+ghost use Rattle.std.specs.Option.{option_map};
+ghost use Rattle.sled_node.specs.Node.{WholeNode};
 ghost use Rattle.sled_script.specs.Asked.{AsksBehind, EncodeLeaf};
 ghost use Rattle.sled_pagecache.specs.declared.pagecache.handles.call.Call.{Call};
 ghost use Rattle.sled_pagecache.specs.declared.pagecache.handles.call.Call.TheVariants as calls;
@@ -13,7 +12,7 @@ mod arguments;
 use self::arguments::{token_of, two_roots};
 use crate::pairs::pairs_of;
 use sled_lines::words::{bytes_of, two_words};
-use sled_pagecache::{Data, IVec, Leaf, Link, Node, PageId, PageView};
+use sled_pagecache::{IVec, Link, Node, PageId, PageView};
 use std::alloc::{AllocError, Global};
 
 /// The mark that opens or closes a batch.
@@ -24,7 +23,7 @@ pub enum Mark {
     Cancel,
 }
 
-/// `PAIRS`, or nothing where there are none: the leaf of these pairs.
+/// Parses `PAIRS`, or nothing if there are none. Returns the leaf of these pairs, or `None` if the words are wrong or a leaf can't hold the pairs.
 pub fn leaf_behind(alloc: Global, pairs: Option<&[u8]>) -> Result<Option<Node>, AllocError>
     ensures some { IfOk result
         (λ found. IfSome found (EncodeLeaf (option_map (λ rest. rest.now) pairs.entry))) }
@@ -37,7 +36,7 @@ pub fn leaf_behind(alloc: Global, pairs: Option<&[u8]>) -> Result<Option<Node>, 
     }
 }
 
-/// `PAIRS`: the leaf of these pairs.
+/// Parses `PAIRS`. Returns the leaf of these pairs, or `None` if the words are wrong or a leaf can't hold the pairs.
 pub fn leaf_in(alloc: Global, words: &[u8]) -> Result<Option<Node>, AllocError>
     ensures some { IfOk result (λ found. IfSome found (EncodeLeaf (Some words.now))) }
     ensures none { IfOk result
@@ -46,23 +45,10 @@ pub fn leaf_in(alloc: Global, words: &[u8]) -> Result<Option<Node>, AllocError>
     let Some(pairs) = pairs_of(alloc, Some(words))? else {
         return Ok(None);
     };
-    leaf_of(alloc, pairs)
+    Node::leaf_of(alloc, pairs)
 }
 
-// The leaf of these pairs over all keys, or none where a leaf can't hold them.
-fn leaf_of(alloc: Global, pairs: Vec<(IVec, IVec)>) -> Result<Option<Node>, AllocError>
-    ensures { IfOk result (λ node. SomeIff node (HasPairs IsWithinLimit pairs.items)
-        (leaf_of (map (λ pair. (pair.0, Value pair.1)) pairs.items))) }
-{
-    let Some(leaf) = Leaf::from_pairs(alloc, pairs)? else {
-        return Ok(None);
-    };
-    let (lo, hi) = (IVec::default(), IVec::default());
-    let contents = Data::Leaf(leaf);
-    Ok(Node::from_parts(0, None, None, false, lo, hi, contents))
-}
-
-/// `ID STAMP KEY VALUE`, behind `set`: the token and the link.
+/// Parses `ID STAMP KEY VALUE`, which follow `set`. Returns the token and the link, or `None` if the words are wrong.
 #[inline(always)]
 pub fn set_behind(alloc: Global, words: &[u8]) -> Result<Option<(PageView, Link)>, AllocError>
     ensures some { IfOk result (λ found. IfSome found (λ made. AsksBehind (codes "set")
@@ -85,7 +71,7 @@ pub fn set_behind(alloc: Global, words: &[u8]) -> Result<Option<(PageView, Link)
     Ok(Some((old, Link::Set(key, value))))
 }
 
-/// `ID STAMP KEY`, behind `del`: the token and the link.
+/// Parses `ID STAMP KEY`, which follow `del`. Returns the token and the link, or `None` if the words are wrong.
 #[inline(always)]
 pub fn del_behind(alloc: Global, words: &[u8]) -> Result<Option<(PageView, Link)>, AllocError>
     ensures some { IfOk result (λ found. IfSome found (λ made. AsksBehind (codes "del")
@@ -105,7 +91,8 @@ pub fn del_behind(alloc: Global, words: &[u8]) -> Result<Option<(PageView, Link)
     Ok(Some((old, Link::Del(key))))
 }
 
-/// `ID STAMP PAIRS`, behind `replace`: the token, and the leaf of these pairs.
+/// Parses `ID STAMP PAIRS`, which follow `replace`. Returns the token and the leaf of these pairs, or `None` if the words are wrong or a leaf can't
+/// hold the pairs.
 pub fn replace_behind(alloc: Global, words: &[u8]) -> Result<Option<(PageView, Node)>, AllocError>
     ensures some { IfOk result (λ found. IfSome found (λ made. AsksBehind (codes "replace")
         (Some words.now) (calls.Replace made.0 made.1))) }
@@ -121,7 +108,7 @@ pub fn replace_behind(alloc: Global, words: &[u8]) -> Result<Option<(PageView, N
     Ok(Some((old, node)))
 }
 
-/// `ID STAMP`, behind `free`: the token.
+/// Parses `ID STAMP`, which follow `free`. Returns the token, or `None` if the words are wrong.
 pub fn free_behind(words: &[u8]) -> Option<PageView>
     ensures some { IfSome result
         (λ old. AsksBehind (codes "free") (Some words.now) (calls.Free old)) }
@@ -135,7 +122,7 @@ pub fn free_behind(words: &[u8]) -> Option<PageView>
     }
 }
 
-/// `NAME OLD NEW`, behind `cas`: the name, and its two root pages.
+/// Parses `NAME OLD NEW`, which follow `cas`. Returns the name and the two root pages, or `None` if the words are wrong.
 pub fn cas_behind(
     alloc: Global,
     words: &[u8],

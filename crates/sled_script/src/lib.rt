@@ -1,12 +1,12 @@
-//! A page cache behind a script: lines in, reply lines out.
+//! A script over a page cache: it reads lines, and writes a reply line for each.
 //!
 //! In reading order:
 //!
-//! - `program`: the program `sledpc`, but for what it takes of the system: its words, its streams and its status
+//! - `program`: the program `sledpc`, except for what it takes from the system: its arguments, its streams and its status
 //! - `run`: the lines of an input, and the replies to them
-//! - `line`, `command`, `pairs`: one line, and what its words ask for
+//! - `line`, `command`, `pairs`: serving one line, and parsing its words
 //! - `batch`: the lines between the one that opens a batch and the one that closes it
-//! - `reply`: from an answer to the line that replies to it
+//! - `reply`: the line that replies to an answer
 #![tactic(auto)]
 
 mod batch;

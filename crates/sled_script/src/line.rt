@@ -1,4 +1,4 @@
-//! One line of the script, and the reply to it.
+//! Serving one line of the script.
 
 ghost use Rattle.std.specs.Prelude.{◌≡◌, ◌++◌, ◌∷◌, [], ◌≤◌, None, Some, codes, length};
 ghost use Rattle.sled_node.specs.Node.{empty_leaf};
@@ -22,8 +22,10 @@ use sled_pagecache::{Link, Log, Node, PageCache, PageView, open_tree};
 use std::alloc::Global;
 use std::io::Write;
 
-/// Serves one line: its reply is put as a line behind those that were gathered. One that opens a batch where none is open, or closes the
-/// one that is, is left, and its mark is answered.
+/// Serves one line, and appends its reply as a line to the gathered ones. A line that opens a batch when none is open, or closes the open one, is not
+/// served: its mark is returned.
+///
+/// Errors: a reply could not be written, or an allocation failed for the line's arguments. After the latter nothing changed.
 pub fn serve_line<L: Log, W: Write>(
     alloc: Global,
     cache: &mut PageCache<L>,

@@ -10,7 +10,7 @@ use sled_lines::cuts::cut_at;
 use sled_lines::words::{bytes_of, first_word};
 use std::alloc::{AllocError, Global};
 
-/// The key and the value that the word encodes, with `=` between them.
+/// Returns the key and the value that the word encodes, with `=` between them, or `None` if it encodes none.
 pub fn pair_of(alloc: Global, word: &[u8]) -> Result<Option<(IVec, IVec)>, AllocError>
     ensures some { IfOk result (λ found. IfSome found (λ pair. word.now ≡ pair_word pair)) }
     ensures bytes { IfOk result (λ found. IfSome found IsPairOfBytes) }
@@ -30,7 +30,7 @@ pub fn pair_of(alloc: Global, word: &[u8]) -> Result<Option<(IVec, IVec)>, Alloc
     Ok(Some((key, value)))
 }
 
-/// The pairs that the words behind a command's name encode.
+/// Returns the pairs that the words after a command's name encode, or `None` if a word encodes no pair.
 pub fn pairs_of(
     alloc: Global,
     words: Option<&[u8]>,

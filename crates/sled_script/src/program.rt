@@ -1,6 +1,6 @@
-//! The program: its words, its streams and its status.
+//! The program: its arguments, its streams and its status.
 
-ghost use Rattle.std.specs.Prelude.{◌≡◌, ◌↔◌, ℕ, ◌*◌, ◌+◌, ◌≤◌, [], true, false, map, Some, IfOk, IfSome, IfNone, IsErrOf};
+ghost use Rattle.std.specs.Prelude.{◌≡◌, ◌↔◌, ℕ, ◌*◌, ◌+◌, ◌≤◌, [], true, map, Some, IfOk, IfSome, IfNone, IsErrOf};
 ghost use Rattle.std.specs.Option.{option_map};
 ghost use Rattle.std.specs.Result.{result_ok, result_map_both};
 ghost use Rattle.std.specs.String.{string_bytes};
@@ -17,6 +17,7 @@ use crate::run::RunError;
 use crew::draw_ids;
 use over_disk::{serve, serve_on};
 use sled_disk::FileDisk;
+pub use sled_lines::NoWords;
 use sled_lines::output::write_rest;
 use sled_lines::words::number_of;
 use sled_lines::{Piece, Unwritten};
@@ -29,13 +30,13 @@ use std::marker::Brand;
 use std::sync::Wait;
 use std::thread::Threads;
 
-/// The script ended with its input.
+/// The status if the script ended with its input.
 const DONE: u8 = 0;
 
-/// An opening, a stream or the memory failed.
+/// The status if an opening, a stream or an allocation failed.
 const FAILED: u8 = 1;
 
-/// The words were no command.
+/// The status if the arguments are no command.
 const WRONG_WORDS: u8 = 2;
 
 const USAGE: &str = "usage: sledpc mem | file PATH | crew N M\n";
@@ -47,35 +48,26 @@ const CONFIG: Config = Config {
     segment_size: 4096,
 };
 
-/// Payloads above this many bytes are blobs in memory.
+/// Payloads of more than this many bytes are kept as blobs in memory.
 const BLOB_LIMIT: usize = 512;
 
-/// A page is moved for so many messages.
+/// One page is due to be moved for each of this many messages.
 const CLEAN_EVERY: u64 = 16;
 
-/// A crew has at most so many threads.
+/// The greatest number of threads in a crew.
 const MOST_WORKERS: u64 = 64;
 
-/// Each thread of a crew makes at most so many calls.
+/// The greatest number of calls that each thread of a crew makes.
 const MOST_CALLS: u64 = 10_000;
 
-/// What the words ask for.
+/// What the arguments ask for.
 enum Job<'a> {
     /// `mem`: the script over a new log in memory.
     Memory,
     /// `file PATH`: the script over the log in this file.
     OnFile(&'a str),
-    /// `crew N M`: so many ids in each of so many threads.
+    /// `crew N M`: N threads, each of which generates M ids.
     Crew(u64, u64),
-}
-
-/// Why there are no words.
-#[derive(Clone, Copy, Debug, PartialEq, Eq)]
-pub enum NoWords {
-    /// Those of the system are no text.
-    NoText,
-    /// An allocation failed for them.
-    Memory,
 }
 
 /// Why a job failed.
@@ -87,11 +79,11 @@ enum Fault {
     Run(RunError),
 }
 
-/// Runs the program, and answers its status: 0 where the script ended, 1 where an opening, a stream or the memory
-/// failed, and 2 where the words are wrong.
+/// Runs the program and returns its status: 0 if the script ended with its input, 1 if an opening, a stream or an allocation failed, and 2 if the
+/// arguments are wrong.
 ///
-/// `words` are those after the program's own path. What went wrong is reported to `faults` in one line. Where there are none, or they
-/// are wrong, nothing is opened, and no stream but `faults` is touched.
+/// `words` are the arguments after the program's own path. A failure is reported to `faults` in one line. If there are no arguments, or wrong ones,
+/// nothing is opened, and no stream except `faults` is touched.
 pub fn drive<
     H: Files<File = File> + Threads + Wait + Copy + Send + 'static,
     R: Read,

@@ -1,6 +1,6 @@
-//! From an answer to the line that replies to it.
+//! The line that replies to an answer.
 
-ghost use Rattle.std.specs.Prelude.{◌≡◌, ◌+◌, ◌<◌, ◌≤◌, [], ◌∷◌, ◌++◌, IsTrue, length, codes, flat_map, take, if◌then◌else◌};
+ghost use Rattle.std.specs.Prelude.{◌≡◌, ◌+◌, ◌≤◌, [], ◌∷◌, ◌++◌, IsTrue, length, codes, flat_map, take, if◌then◌else◌};
 ghost use Rattle.std.specs.Fmt.{decimal};
 ghost use Rattle.sled_node.specs.Node.{Value};
 ghost use Rattle.sled_node.specs.Parts.{item_of};
@@ -17,7 +17,7 @@ use sled_lines::{Piece, Unwritten};
 use sled_pagecache::{Error, Item, Node, NodeView, PageId, PageView, Refusal};
 use std::io::Write;
 
-/// What a call of the cache answered, lent: any but a link, whose answer is replied to by itself.
+/// The answer of a call of the cache, borrowed. It excludes links, whose answers have a reply function of their own.
 #[derive(Clone, Copy)]
 pub enum LentAnswer<'a> {
     Allocated(&'a Result<(PageId, PageView), Error>),
@@ -33,7 +33,7 @@ pub enum LentAnswer<'a> {
     AttemptedGc(&'a Result<bool, Error>),
 }
 
-/// Puts the reply to an answer as a line behind what was gathered.
+/// Appends the reply to an answer as a line to the gathered text.
 pub fn gather_line<W: Write>(
     writer: &mut W,
     piece: &mut Piece,
@@ -85,7 +85,7 @@ pub fn gather_line<W: Write>(
     }
 }
 
-/// Puts the reply to a swap as a line behind what was gathered: the page's new stamp, or the present one.
+/// Appends the reply to a swap as a line to the gathered text: the page's new stamp, or its present one.
 #[inline(always)]
 pub fn gather_swap<W: Write, R>(
     writer: &mut W,
@@ -103,7 +103,7 @@ pub fn gather_swap<W: Write, R>(
     }
 }
 
-/// Puts the reply to the opening of a tree as a line behind what was gathered.
+/// Appends the reply to the opening of a tree as a line to the gathered text.
 pub fn gather_tree<W: Write>(
     writer: &mut W,
     piece: &mut Piece,
@@ -118,7 +118,7 @@ pub fn gather_tree<W: Write>(
     }
 }
 
-/// Puts the reply to the opening or the closing of a batch as a line behind what was gathered.
+/// Appends the reply to the opening or the closing of a batch as a line to the gathered text.
 pub fn gather_mark<W: Write>(
     writer: &mut W,
     piece: &mut Piece,

@@ -1,4 +1,4 @@
-//! The engine: it reads lines, and writes the replies to them.
+//! Reading lines, and writing the replies to them.
 
 ghost use Rattle.std.specs.Prelude.{◌≡◌, false};
 ghost use Rattle.sled_script.specs.Runs.{Serves, run_error_of};
@@ -17,10 +17,10 @@ use thiserror::Error;
 /// Why a run ended before its input did.
 #[derive(Clone, Copy, Debug, Error)]
 pub enum RunError {
-    /// The input was not read.
+    /// The input could not be read.
     #[error("error read")]
     Read,
-    /// A reply was not written.
+    /// A reply could not be written.
     #[error("error write")]
     Write,
     /// An allocation failed for a line or for its arguments.
@@ -59,27 +59,30 @@ impl From<Unwritten> for RunError {
     }
 }
 
-/// Where lines were served up to.
+/// Where serving lines ended.
 #[derive(Clone, Copy)]
 pub enum Stop {
     /// The end of the input.
     End,
-    /// A line that opens or closes a batch, which was read and not answered.
+    /// Before a line that opens or closes a batch, which was read and not answered.
     At { mark: Mark, is_followed: bool },
 }
 
-/// Makes the calls that the lines of the input ask for, and writes one reply line for each line.
+/// A line that is no command, or that is longer than 65,536 bytes, is answered by `error line` and changes nothing. So is one that closes a batch
+/// when none is open. A batch that is open at the end of the input, or at an error, is cancelled without a reply. The calls are steps in a row: what
+/// they write is appended to the log in order, and a crash at any point leaves what the log held and a prefix of the rest that splits no batch. Apart
+/// from the pages and the log, at most one line is held in memory.
 ///
 /// A line that is no command, or is longer than 65,536 bytes, is answered by `error line` and changes nothing, and so is one that
 /// closes a batch where none is open. A batch that is open at the end, an error too, is cancelled, without a reply. The calls are
 /// steps in a row: what they write is added to the log in order, and a crash at any moment leaves what the log held and a
 /// prefix of that which splits no batch. Apart from the pages and the log, at most one line is held in memory.
 ///
-/// The writer is flushed behind each line that is not followed by another whole one in what the reader has buffered: so
-/// always before a read that may wait, and once for lines that were read together.
+/// The writer is flushed after each line that isn't followed by another whole line in the reader's buffer. So it is flushed before every read that
+/// may block, and once for lines that were read together.
 ///
-/// At an error a prefix of the lines was answered. At [`RunError::Read`] and [`RunError::Memory`] the replies to them
-/// were written, and at [`RunError::Write`] a prefix of these replies.
+/// After an error a prefix of the lines was answered. After [`RunError::Read`] and [`RunError::Memory`] the replies to them were written, and after
+/// [`RunError::Write`] a prefix of these replies.
 pub fn run<L: Log, R: BufRead, W: Write>(
     alloc: Global,
     cache: &mut PageCache<L>,
@@ -132,7 +135,7 @@ fn serve_lines<L: Log, R: BufRead, W: Write>(
     Err(RunError::Read)
 }
 
-/// Serves lines, up to one that opens a batch where none is open, or closes the one that is. The last replies may be left in the piece.
+/// Serves lines, up to one that opens a batch when none is open, or closes the open one. The last replies may still be in the piece.
 pub fn serve_until<L: Log, R: BufRead, W: Write>(
     alloc: Global,
     cache: &mut PageCache<L>,

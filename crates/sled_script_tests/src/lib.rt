@@ -1,4 +1,4 @@
-//! Tests of what `sled_script` makes public, and the examples of the README and the guide.
+//! Tests of what `sled_script` makes public, and the examples of docs/GUIDE.md.
 //!
 //! They stand apart from the code that they try, since a crate with tests is proved twice.
 #![tactic(auto)]

@@ -1,4 +1,4 @@
--- Worked examples: the pages of small trees, one page a line, and what changes make of them.
+-- Worked examples: the pages of small trees, one page on a line, and what some changes make of them.
 use Rattle.std.specs.Prelude.{ℕ, false, List, [], ◌∷◌, ◌++◌, map, Option, Some, None}
 use Rattle.sled_base.specs.Order.{Bytes}
 use Rattle.sled_log.specs.Contents.{Content, Free, Roots, Counter, Node, Update, Put, Link}
@@ -14,18 +14,18 @@ use Rattle.sled_search.specs.Maps.{Maps, no_maps, with_map}
 abbrev pub one : ℕ → Bytes
 one byte = byte ∷ []
 
--- a leaf from one key up to another, which leads on to a page; its pairs are of one byte each
+-- a leaf whose range is from `lo` up to `hi`, with its next page; its keys and values have one byte each
 abbrev pub leaf : Bytes → Bytes → Option ℕ → List (ℕ × ℕ) → WholeNode
 leaf lo hi next pairs = record { prefix_len = 0; lo = lo; hi = hi; next = next; child = None; capped = false; is_index = false; pairs = map (λ pair. (one pair.0, Value (one pair.1))) pairs }
 
--- an index over all keys, which leads to a page, and from this key on to another one
+-- an index over all keys with one child; and one with two children, of which the second begins at a key
 abbrev pub over_one : ℕ → WholeNode
 over_one page = index_of (([], Child page) ∷ [])
 
 abbrev pub over_two : ℕ → Bytes → ℕ → WholeNode
 over_two page at other = index_of (([], Child page) ∷ (at, Child other) ∷ [])
 
--- The named roots and the counter are on the pages 0 and 1, a leaf on page 2, the index over it on page 3: the root of each tree here.
+-- The named roots and the counter are on the pages 0 and 1, a leaf on page 2, and the index over it, the root of each tree here, on page 3.
 abbrev pub cache_of : List WholeNode → List Content
 cache_of nodes = Roots [] ∷ Counter 0 ∷ map Node nodes
 
@@ -45,7 +45,7 @@ one_leaf = cache_of (
     ∷ over_one 2
     ∷ [])
 
--- The leaf is split. The index leads to the left part alone, and that one leads on.
+-- The leaf is split. The index leads only to the left part, and the left part leads on to the right one.
 abbrev pub half_way : List Content
 half_way = cache_of (
     leaf [] (one 5) (Some 4) ((1, 10) ∷ (3, 30) ∷ [])
@@ -53,7 +53,7 @@ half_way = cache_of (
     ∷ leaf (one 5) [] None ((5, 50) ∷ [])
     ∷ [])
 
--- The index leads to both.
+-- The index leads to both parts.
 abbrev pub two_leaves : List Content
 two_leaves = cache_of (
     leaf [] (one 5) (Some 4) ((1, 10) ∷ (3, 30) ∷ [])
@@ -61,7 +61,7 @@ two_leaves = cache_of (
     ∷ leaf (one 5) [] None ((5, 50) ∷ [])
     ∷ [])
 
--- what they are
+-- the map that these pages are
 abbrev pub three_pairs : Map
 three_pairs = (one 1, one 10) ∷ (one 3, one 30) ∷ (one 5, one 50) ∷ []
 
@@ -70,7 +70,7 @@ three_pairs = (one 1, one 10) ∷ (one 3, one 30) ∷ (one 5, one 50) ∷ []
 abbrev pub sets : List (Event Update)
 sets = Change 2 (Link (Set (one 5) (one 50))) ∷ Change 2 (Link (Set (one 1) (one 10))) ∷ Change 2 (Link (Set (one 3) (one 30))) ∷ []
 
--- the right part on a new page, the left part in place of the whole, and then the index with one more child
+-- the right part is put on a new page, the left part replaces the whole leaf, and then the index gets one more child
 abbrev pub split : List (Event Update)
 split =
     Change 4 (Put (Node (leaf (one 5) [] None ((5, 50) ∷ []))))
@@ -78,7 +78,7 @@ split =
     ∷ Change 3 (Put (Node (over_two 2 (one 5) 4)))
     ∷ []
 
--- each set as a call, and the split as one, which leaves the map
+-- each set is a call, and so is the split, which leaves the map as it is
 abbrev pub alone : Map → Maps
 alone m = with_map root m no_maps
 
@@ -95,8 +95,8 @@ four_calls =
 abbrev pub merged_leaf : WholeNode
 merged_leaf = leaf [] [] None ((1, 10) ∷ (3, 30) ∷ (5, 50) ∷ [])
 
--- The index without the right leaf, the left leaf with all pairs, and then the right leaf's page is free. Behind the first of these the pages
--- are those of the split before its last.
+-- The index loses the right leaf, the left leaf gets all pairs, and then the right leaf's page is freed. After the first of these changes the
+-- pages are those of the split before its last change.
 abbrev pub merge : List (Event Update)
 merge =
     Change 3 (Put (Node (over_one 2)))
@@ -129,9 +129,9 @@ one_leaf_of_two = cache_of (
     ∷ over_one 2
     ∷ [])
 
--- ---- trees whose pages are in no order
+-- ---- trees whose pages are not in order
 
--- The index leads to the right leaf by two pairs. Without the first of them a search goes there still.
+-- The index leads to the right leaf by two pairs. Without the first of them, a search still goes there.
 abbrev pub over_three : WholeNode
 over_three = index_of (([], Child 2) ∷ (one 5, Child 4) ∷ (one 7, Child 4) ∷ [])
 
@@ -153,7 +153,7 @@ led_by_another = cache_of (
 
 -- ---- pages that are no tree
 
--- the left part doesn't lead on, and the index leads to it alone
+-- the left part doesn't lead on, and the index leads only to it
 abbrev pub part_lost : List Content
 part_lost = cache_of (
     leaf [] (one 5) None ((1, 10) ∷ (3, 30) ∷ [])
@@ -177,7 +177,7 @@ not_cut = cache_of (
     ∷ leaf (one 5) [] None ((5, 50) ∷ [])
     ∷ [])
 
--- a tree, but of two of the pairs alone: the last one of the left part is lost
+-- a tree, but of only two of the pairs: the last pair of the left part is lost
 abbrev pub pair_lost : List Content
 pair_lost = cache_of (
     leaf [] (one 5) (Some 4) ((1, 10) ∷ [])

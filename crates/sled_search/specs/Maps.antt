@@ -6,25 +6,25 @@ use Rattle.sled_search.specs.Map.{Map}
 use Rattle.sled_search.specs.Orderly.{IsOrderly}
 use Rattle.sled_search.specs.Search.{Goes, IsTreeOf}
 
--- of each root that has a tree, its map
+-- the map of each root that has a tree
 abbrev pub Maps : Type 0
 Maps = ℕ → Option Map
 
 abbrev pub HasTree : Maps → ℕ → Type 0
 HasTree maps root = (m : Map) × (maps root ≡ Some m)
 
--- none at all
+-- no root has a tree
 abbrev pub no_maps : Maps
 no_maps root = None
 
--- with this map at a root, and with none there
+-- the maps, but with this map at a root, or with none there
 abbrev pub with_map : ℕ → Map → Maps → Maps
 with_map root m maps other = if other == root then Some m else maps other
 
 abbrev pub without_map : ℕ → Maps → Maps
 without_map root maps other = if other == root then None else maps other
 
--- a search from the root is at the page, behind some of its turns
+-- some search from the root reaches the page
 abbrev pub Reaches : List Content → ℕ → ℕ → Type 0
 Reaches pages root page = (key : Bytes) × (turns : ℕ) × Goes pages key turns root page
 
@@ -34,10 +34,10 @@ pub record AreTrees (pages : List Content) (maps : Maps) : Type 0 where
   pub apart : (a b : ℕ) → HasTree maps a → HasTree maps b → a ≢ b → (page : ℕ) → Reaches pages a page → Reaches pages b page → ⊥
   pub orderly : (root : ℕ) → HasTree maps root → IsOrderly pages root
 
--- no search is ever at the page
+-- no search from a root ever reaches the page
 abbrev pub IsOff : List Content → Maps → ℕ → Type 0
 IsOff pages maps page = (root : ℕ) → HasTree maps root → Reaches pages root page → ⊥
 
--- all other pages stay
+-- all pages except page p stay as they are
 abbrev pub ChangesOne : List Content → ℕ → List Content → Type 0
 ChangesOne pages p changed = (pid : ℕ) → pid ≢ p → slice_get changed pid ≡ slice_get pages pid

@@ -1,4 +1,4 @@
--- What a node says of a key.
+-- Where a node leads a search.
 use Rattle.std.specs.Prelude.{ℕ}
 use Rattle.std.specs.declared.ops.Bound.{Bound}
 use Rattle.sled_base.specs.Order.{Bytes}
@@ -8,7 +8,7 @@ use Rattle.sled_search.specs.Search.{LeadsDown, LeadsRight, LeadsTo, IsLeafOf}
 use Rattle.sled_search.specs.declared.turns.Turn.{Turn}
 use Rattle.sled_search.specs.declared.turns.Turn.TheVariants.{Here, Down, Right, Astray}
 
--- it is no leaf of the key, and leads it nowhere
+-- the node is not a leaf of the key, and leads it nowhere
 abbrev pub IsAstray : Bytes → WholeNode → Type 0
 IsAstray key n = (¬ IsLeafOf key n) × ((page : ℕ) → LeadsTo n key page → ⊥)
 
@@ -18,7 +18,7 @@ Routes key (Down page) n = LeadsDown n key page
 Routes key (Right page) n = LeadsRight n key page
 Routes key Astray n = IsAstray key n
 
--- the same of the keys right before a bound
+-- the same for the keys just before a bound
 abbrev pub RoutesBefore : Bound Bytes → Turn → WholeNode → Type 0
 RoutesBefore bound Here n = IsLeafBefore bound n
 RoutesBefore bound (Down page) n = LeadsDownBefore n bound page

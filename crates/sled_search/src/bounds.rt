@@ -1,6 +1,6 @@
-//! Where a node leads the keys right before a bound.
+//! Where a node leads a search for the keys just before a bound.
 
-ghost use Rattle.std.specs.Prelude.{◌≡◌, ◌≢◌, ◌<◌, ◌≤◌, [], true, length, take, Some, IsTrue, ◌↔◌, slice_get};
+ghost use Rattle.std.specs.Prelude.{◌≡◌, ◌<◌, ◌≤◌, true, length, take, Some, IsTrue, ◌↔◌, slice_get};
 ghost use Rattle.std.specs.declared.ops.Bound.{Bound as BoundOf};
 ghost use Rattle.sled_base.specs.Order.{Bytes, IsBelow, IsAtMost};
 ghost use Rattle.sled_node.specs.Neighbours.{IsBefore, IsCount};
@@ -13,10 +13,10 @@ use sled_base::{IVec, PageId};
 use sled_node::{Item, Node};
 use std::ops::Bound;
 
-/// Where a node leads the keys right before a bound: those that are before it, from some key on.
+/// Returns where a node leads a search for the keys just before a bound: all keys before the bound, from some key on.
 ///
-/// It is [`Turn::Here`] at a leaf that has them in its range, [`Turn::Down`] at an index that has them there and a child for them, and
-/// [`Turn::Right`] at a node that lacks them and leads on to another one. Else it is [`Turn::Astray`].
+/// The result is [`Turn::Here`] at a leaf whose range has these keys, and [`Turn::Down`] at an index whose range has them and that has a child
+/// for them. It is [`Turn::Right`] at a node whose range lacks them and that has a next node. Otherwise it is [`Turn::Astray`].
 pub fn route_before(node: &Node, bound: &Bound<IVec>) -> Turn
     ensures { RoutesBefore bound.now result node.now }
 {
@@ -108,7 +108,7 @@ fn count_below(node: &Node, key: &[u8]) -> usize
     count
 }
 
-/// Whether the pair at a place has this whole key.
+/// Returns whether the key of the pair at place `at`, taken whole, is `key`.
 pub fn is_key_at(node: &Node, at: usize, key: &[u8]) -> bool
     requires { at < length node.now.pairs }
     ensures { (found : Bytes) (item : WholeItem) → slice_get node.now.pairs at ≡ Some (found, item)

@@ -1,19 +1,19 @@
-//! What a part of the changes of several calls leaves of the maps.
+//! What a prefix of the changes of several calls leaves of the maps.
 
-ghost use Rattle.std.specs.Prelude.{◌≡◌, ◌≤◌, ℕ, List, [], ◌∷◌, ◌++◌, length};
+ghost use Rattle.std.specs.Prelude.{◌≤◌, ℕ, List, [], ◌∷◌, ◌++◌, length};
 ghost use Rattle.sled_log.specs.Contents.{Content, Update, contents_from, contents_after};
 ghost use Rattle.sled_log.specs.Events.{Event};
 ghost use Rattle.sled_search.specs.Calls.{Becomes, Call, AreCalls, changes_of, left_by, ArePrefixOf};
 ghost use Rattle.sled_search.specs.Maps.{Maps, AreTrees};
 
-/// Behind a prefix of the changes of calls the pages are the maps behind a prefix of the calls, which has each call whose changes are all
-/// there: so that is what a crash leaves.
+/// After a prefix of the changes of some calls, the pages are the maps that a prefix of the calls makes. That prefix has every call whose
+/// changes are all there, and no call that begins later. So this is what a crash leaves.
 pub fn a_part_of_the_changes_is_a_part_of_the_calls()
     ensures { (pages : List Content) (maps : Maps) (calls : List (Call Maps)) → AreCalls AreTrees pages maps calls
         → (n : ℕ) → n ≤ length (changes_of calls) → ArePrefixOf AreTrees pages maps calls n }
 {}
 
-/// A call makes changes one after another, of which at most one makes other maps; and calls behind calls are calls in a row.
+/// Changes in a row make one call, if at most one of them makes other maps. Calls followed by calls are calls in a row.
 pub fn changes_make_a_call()
     ensures none { (pages : List Content) (maps : Maps) → AreTrees pages maps
         → Becomes AreTrees pages maps [] maps }

@@ -1,4 +1,4 @@
-//! Worked examples of the definitions: small trees, page by page, and pages that are none.
+//! Worked examples of the definitions: small trees, page by page, and pages that are no tree.
 
 ghost use Rattle.std.specs.Prelude.{◌≡◌, [], ◌∷◌, ◌++◌, take, Some, None};
 ghost use Rattle.std.specs.declared.ops.Bound.TheVariants.{Included, Excluded, Unbounded};
@@ -12,7 +12,7 @@ ghost use Rattle.sled_search.specs.Ordered.{IsNextAbove, IsNextBelow, IsLeafBefo
 ghost use Rattle.sled_search.specs.Orderly.{IsOrderly};
 ghost use Rattle.sled_search.specs.Search.{HasNodeAt, Finds, HasAt, ComesToValue, IsTreeOf};
 
-/// Of pairs at 1, 3 and 5 one is at 3, none at 4, and the one at 3 leads both; none leads 0.
+/// With pairs at 1, 3 and 5, key 3 has a value and key 4 has none. The pair at 3 leads both of these keys, and no pair leads key 0.
 pub fn pairs_at_a_key()
     ensures there { at_key three_pairs (one 3) ≡ Some (one 30) }
     ensures missing { at_key three_pairs (one 4) ≡ None }
@@ -21,7 +21,7 @@ pub fn pairs_at_a_key()
     ensures leads_below { leading three_pairs (one 0) ≡ None }
 {}
 
-/// Three keys are set in a new tree, and its leaf is split: what the pages are then, and which map the tree is behind each change.
+/// Three keys are set in a new tree, and then its leaf is split: the pages after that, and the map that the tree is after each change.
 pub fn a_tree_that_grows()
     ensures filled { contents_after new_tree sets ≡ one_leaf }
     ensures split { contents_after one_leaf split ≡ two_leaves }
@@ -31,16 +31,16 @@ pub fn a_tree_that_grows()
         ∷ three_pairs ∷ three_pairs ∷ three_pairs ∷ three_pairs ∷ []) }
 {}
 
-/// The same changes as four calls: three that set a key, by one change each, and one that splits the leaf by three changes. With two of these
-/// three the pages are what they were before that call.
+/// The same changes as four calls: three calls set a key each, with one change, and one call splits the leaf, with three changes. After two of
+/// these three changes the pages are still the maps from before that call.
 pub fn calls_of_several_changes()
     ensures calls { AreCalls AreTrees new_tree (with_map root [] no_maps) four_calls }
     ensures changes { changes_of four_calls ≡ sets ++ split }
     ensures cut { AreTrees (contents_after new_tree (take 5 (changes_of four_calls))) (left_by (with_map root [] no_maps) (take 3 four_calls)) }
 {}
 
-/// The two leaves are merged, by three events, behind each of which the map is the same: the pair to the right leaf is taken out of the index,
-/// the left leaf takes in the right one's pairs, to which no search goes any more, and the right leaf's page is freed.
+/// The two leaves are merged in three events, and the map is the same after each of them. First the index loses its pair to the right leaf.
+/// Then the left leaf receives the pairs of the right leaf, and no search reaches the right leaf any more. Last, the right leaf's page is freed.
 pub fn two_leaves_that_are_merged()
     ensures call { Becomes AreTrees two_leaves (with_map root three_pairs no_maps) merge (with_map root three_pairs no_maps) }
     ensures taken_out { contents_after two_leaves (take 1 merge) ≡ half_way }
@@ -49,7 +49,7 @@ pub fn two_leaves_that_are_merged()
     ensures freed { contents_after two_leaves merge ≡ one_leaf ++ Free ∷ [] }
 {}
 
-/// An index over two leaves: a search goes down to a leaf, in one turn, and is answered by what that has.
+/// An index over two leaves: a search goes down to a leaf in one turn, and finds what that leaf has at the key.
 pub fn an_index_over_two_leaves()
     ensures left { Finds two_leaves (one 3) (λ pid n. (pid ≡ 2) × HasAt (one 3) (Some (one 30)) n) 1 root }
     ensures right { Finds two_leaves (one 5) (λ pid n. (pid ≡ 4) × HasAt (one 5) (Some (one 50)) n) 1 root }
@@ -57,14 +57,14 @@ pub fn an_index_over_two_leaves()
     ensures tree { IsTreeOf two_leaves root three_pairs }
 {}
 
-/// A leaf that is split before the index leads to its right part: a search for a key of that part turns right at the left one.
+/// A leaf is split, and the index doesn't lead to its right part yet: a search for a key of the right part turns right at the left part.
 pub fn a_split_before_its_child_is_added()
     ensures left { Finds half_way (one 3) (λ pid n. (pid ≡ 2) × HasAt (one 3) (Some (one 30)) n) 1 root }
     ensures right { Finds half_way (one 5) (λ pid n. (pid ≡ 4) × HasAt (one 5) (Some (one 50)) n) 2 root }
     ensures tree { IsTreeOf half_way root three_pairs }
 {}
 
-/// Of the pairs at 1, 3 and 5 those next to a bound; and the keys right before 5 are in the left leaf, whose end 5 is.
+/// The pairs next to a bound, of pairs at 1, 3 and 5. The keys just before 5 are in the left leaf, which ends at 5.
 pub fn pairs_next_to_a_bound()
     ensures behind { IsNextAbove three_pairs (Excluded (one 3)) (Some (one 5, one 50)) }
     ensures from { IsNextAbove three_pairs (Included (one 3)) (Some (one 3, one 30)) }
@@ -75,16 +75,16 @@ pub fn pairs_next_to_a_bound()
     ensures leaf { HasNodeAt two_leaves 2 (IsLeafBefore (Excluded (one 5))) }
 {}
 
-/// Two roots, each over a leaf of its own, are two maps. Over one leaf each is a tree, and they are not two maps: what is set in one would be
-/// set in the other.
+/// Two roots, each over a leaf of its own, are two maps. Two roots over the same leaf are a tree each, but they are not two maps: setting a key
+/// in one would set it in the other.
 pub fn two_roots()
     ensures two { AreTrees two_trees (with_map 5 [] (with_map 3 [] no_maps)) }
     ensures each { IsTreeOf one_leaf_of_two 3 [] × IsTreeOf one_leaf_of_two 4 [] }
     ensures not_two { AreTrees one_leaf_of_two (with_map 4 [] (with_map 3 [] no_maps)) → ⊥ }
 {}
 
-/// Trees whose pages are in no order: another pair or another index leads to the right leaf. If it were merged into the left one, and its page
-/// freed, searches would go there still. The pages of a new tree are in order, and those of two leaves under one index.
+/// Trees whose pages are not in order: another pair or another index leads to the right leaf too. If that leaf were merged into the left one
+/// and its page freed, searches would still go there. The pages of a new tree are in order, and so are those of two leaves under one index.
 pub fn trees_in_no_order()
     ensures led_twice { IsTreeOf led_twice root three_pairs }
     ensures twice_not { IsOrderly led_twice root → ⊥ }
@@ -94,15 +94,15 @@ pub fn trees_in_no_order()
     ensures in_order { IsOrderly two_leaves root }
 {}
 
-/// Pages that are no tree at all: where the left part of a split leads nowhere, where an index leads keys to a node that doesn't have them,
-/// and where two leaves have the same keys in their ranges.
+/// Pages that are no tree at all: the left part of a split leads nowhere, an index leads keys to a node that doesn't have them in its range,
+/// or two leaves have the same keys in their ranges.
 pub fn pages_that_are_no_tree()
     ensures part_lost { (m : Map) → IsTreeOf part_lost root m → ⊥ }
     ensures led_astray { (m : Map) → IsTreeOf led_astray root m → ⊥ }
     ensures not_cut { (m : Map) → IsTreeOf not_cut root m → ⊥ }
 {}
 
-/// A tree that is no other map: one that lost a pair.
+/// A tree that lost a pair is not the map that still has the pair.
 pub fn a_tree_that_is_another_map()
     ensures { IsTreeOf pair_lost root three_pairs → ⊥ }
 {}

@@ -1,4 +1,4 @@
-//! What holds of the definitions that the contracts of a tree cite: which map a tree is, and what each change of a page makes of it.
+//! Laws of the definitions that the contracts of a tree cite: which map a tree is, and how each change of a page changes that map.
 
 ghost use Rattle.std.specs.Prelude.{◌≡◌, ◌≢◌, ◌<◌, ◌≤◌, ℕ, suc, List, [], ◌∷◌, ◌++◌, length, take, Option, Some, true, slice_get, slice_set, ⊤};
 ghost use Rattle.std.specs.Option.{option_map};
@@ -18,7 +18,7 @@ ghost use Rattle.sled_search.specs.Maps.{ChangesOne};
 ghost use Rattle.sled_search.specs.Routes.{IsAstray};
 ghost use Rattle.sled_search.specs.Search.{HasNodeAt, LeadsTo, IsLeafOf, Answers, Goes, ComesToValue, ComesToLeafOf, IsTreeOf};
 
-/// A search comes to one value at most, and of a tree to what the map has.
+/// A search for a key has at most one result. In a tree, the result is what the map has at the key.
 pub fn a_search_is_answered_by_the_map()
     ensures one { (pages : List Content) (key : Bytes) (a b : Option Bytes) (root : ℕ)
         → ComesToValue pages key a root → ComesToValue pages key b root → a ≡ b }
@@ -26,14 +26,14 @@ pub fn a_search_is_answered_by_the_map()
         (m : Map) → IsTreeOf pages root m → ComesToValue pages key value root → value ≡ at_key m key }
 {}
 
-/// A tree is one map at most.
+/// A tree is at most one map.
 pub fn a_tree_is_one_map()
     ensures { (pages : List Content) (root : ℕ) (m other : Map) → IsTreeOf pages root m
         → IsTreeOf pages root other → m ≡ other }
 {}
 
-/// Turns one after another are a search, and with the leaf at which they end it has come there, and to what that has. Where one page is
-/// changed, a search goes as before up to that page.
+/// Turns in a row make a search. A search that ends at a leaf of its key has come to that leaf, and finds what the leaf has at the key. If one
+/// page is changed, a search goes the same way as before until it reaches that page.
 pub fn turns_make_a_search()
     ensures then { (pages : List Content) (key : Bytes) (turns from at to : ℕ)
         → Goes pages key turns from at
@@ -49,7 +49,8 @@ pub fn turns_make_a_search()
         → ((i : ℕ) → i < turns → Goes pages key i from p → ⊥) → Goes changed key turns from at }
 {}
 
-/// A search in a tree takes fewer turns than there are pages, is at no page twice, and wherever it is, it is at a leaf of the key or goes on.
+/// A search in a tree takes fewer turns than there are pages, and visits no page twice. Each page that it visits has a node, which is a leaf of
+/// the key or leads the search further.
 pub fn a_search_in_a_tree_ends()
     ensures once { (pages : List Content) (root : ℕ) (m : Map) → IsTreeOf pages root m
         → (key : Bytes) (i j at : ℕ) → Goes pages key i root at → Goes pages key j root at → i ≡ j }
@@ -63,14 +64,14 @@ pub fn a_search_in_a_tree_ends()
         → HasNodeAt pages at (λ _. ⊤) }
 {}
 
-/// An index over all keys, which leads to an empty leaf, is the empty map: what `open_tree` makes.
+/// An index over all keys whose only child is an empty leaf is the empty map. `open_tree` makes such a tree.
 pub fn a_new_tree_is_empty()
     ensures { (pages : List Content) (root leaf : ℕ)
         → slice_get pages root ≡ Some (Node (index_of (([], Child leaf) ∷ [])))
         → slice_get pages leaf ≡ Some (Node empty_leaf) → IsTreeOf pages root [] }
 {}
 
-/// A key that is set in the leaf to which its search comes is set in the map, and one that is taken out there is taken out of it.
+/// Setting a key in the leaf that its search comes to sets it in the map. Deleting it in that leaf deletes it from the map.
 pub fn a_leaf_that_is_changed_changes_the_map()
     ensures set { (pages : List Content) (root : ℕ) (m : Map) → IsTreeOf pages root m
         → (p : ℕ) (n : WholeNode) → slice_get pages p ≡ Some (Node n) → (stored value : Bytes)
@@ -84,7 +85,7 @@ pub fn a_leaf_that_is_changed_changes_the_map()
         (del_pair (whole n stored) m) }
 {}
 
-/// A node that is put on a page that has none leaves the map.
+/// Putting a node on a page that has none leaves the map as it is.
 pub fn a_page_that_is_added_leaves_the_map()
     ensures { (pages : List Content) (root : ℕ) (m : Map) → IsTreeOf pages root m
         → (changed : List Content) (p : ℕ)
@@ -93,8 +94,8 @@ pub fn a_page_that_is_added_leaves_the_map()
         → slice_get changed pid ≡ Some (Node n)) → IsTreeOf changed root m }
 {}
 
-/// A node that is split, behind however many of its pairs, leaves the map: where its left part is put in its place, behind which a search goes
-/// to the right part, and where an index over both parts is.
+/// Splitting a node after any number of its pairs leaves the map as it is. Either its left part replaces it, and leads a search on to the right
+/// part; or an index over both parts replaces it.
 pub fn a_node_that_is_split_leaves_the_map()
     ensures in_place { (pages : List Content) (root : ℕ) (m : Map) → IsTreeOf pages root m
         → (p many : ℕ) (n l r : WholeNode) → slice_get pages p ≡ Some (Node n) → SplitsBehind n many l r
@@ -109,8 +110,8 @@ pub fn a_node_that_is_split_leaves_the_map()
         (Node (index_of (([], Child left) ∷ (r.lo, Child right) ∷ [])))) root m }
 {}
 
-/// An index that is led to one more child, from the key on at which the node to which it led that key ends, and to which that node leads
-/// on, leaves the map.
+/// Adding a child to an index, from a key on, leaves the map as it is. The condition is that the node to which the index led that key so far ends
+/// at the key, and that its next node is the new child.
 pub fn a_child_that_is_added_leaves_the_map()
     ensures { (pages : List Content) (root : ℕ) (m : Map) → IsTreeOf pages root m
         → (q : ℕ) (n : WholeNode) (at : Bytes) (page : ℕ) → slice_get pages q ≡ Some (Node n)
@@ -121,8 +122,8 @@ pub fn a_child_that_is_added_leaves_the_map()
         → IsTreeOf (slice_set pages q (Node (with_child at page n))) root m }
 {}
 
-/// A leaf to which a search comes has what the map has at each key of its range: so of the keys between a bound and its end the map has
-/// those that the leaf has.
+/// A leaf that a search comes to has what the map has at each key of its range. So between a bound and the leaf's end, the map has exactly the
+/// keys that the leaf has.
 pub fn a_leaf_has_what_the_map_has()
     ensures { (pages : List Content) (root : ℕ) (m : Map) → IsTreeOf pages root m
         → (key : Bytes) (leaf : ℕ) (n : WholeNode) → slice_get pages leaf ≡ Some (Node n)
@@ -130,8 +131,8 @@ pub fn a_leaf_has_what_the_map_has()
         → at_key n.pairs other ≡ option_map Value (at_key m other) }
 {}
 
-/// Where the tree is one map behind each change, it is the map behind a prefix of the changes in the pages behind that prefix; so that is
-/// what a crash leaves, with the prefix that it kept.
+/// If a tree is a map after each of some changes, then in the pages after a prefix of the changes it is the map of that prefix. A crash keeps a
+/// prefix of the changes, so it leaves the map of that prefix.
 pub fn a_crash_leaves_one_of_the_maps()
     ensures prefix { (pages : List Content) (root : ℕ) (m : Map) (events : List (Event Update))
         (maps : List Map) → Passes pages root m events maps → (n : ℕ) → n ≤ length events

@@ -1,4 +1,4 @@
-//! What a leaf has of a key.
+//! The value that a leaf has for a key.
 
 ghost use Rattle.std.specs.Prelude.{None, IfOk, IsErrOf};
 ghost use Rattle.sled_base.specs.declared.types.Error.TheVariants.{Corruption};
@@ -7,10 +7,10 @@ ghost use Rattle.sled_search.specs.Search.{Answers, IsLeafOf};
 use sled_base::{Error, IVec};
 use sled_node::Node;
 
-/// A copy of the value that a leaf has at a whole key, or none where it has none.
+/// Returns a copy of the value that a leaf has at a whole key, or `None` if it has none.
 ///
-/// [`Error::Corruption`] comes where the node is no leaf or lacks the key in its range, and nowhere else;
-/// [`Error::OutOfMemory`] means that the copy could not be allocated.
+/// Returns [`Error::Corruption`] if the node is not a leaf or its range lacks the key, and only then. [`Error::OutOfMemory`] means that the
+/// copy could not be allocated.
 pub fn value_in(node: &Node, key: &[u8]) -> Result<Option<IVec>, Error>
     ensures value { IfOk result (λ value. Answers key.now value node.now) }
     ensures elsewhere { (¬ IsLeafOf key.now node.now) → IsErrOf result (Corruption None) }

@@ -1,14 +1,14 @@
-//! Where a search for a key goes in the pages of a tree, and what it comes to.
+//! Searching the pages of a tree for a key: where a search goes, and what it finds.
 //!
 //! In reading order:
 //!
-//! - `turns`: where a node leads a key
-//! - `bounds`: where it leads the keys right before a bound
-//! - `leaf`: what a leaf has of a key
-//! - `laws`: what holds of the definitions
-//! - `maps`: what holds of several trees in the same pages
-//! - `ordered`: where the pair next to a bound is
-//! - `calls`: what a part of the changes of several calls leaves
+//! - `turns`: where a node leads a search for a key
+//! - `bounds`: where a node leads a search for the keys just before a bound
+//! - `leaf`: the value that a leaf has for a key
+//! - `laws`: laws of the definitions, for one tree
+//! - `maps`: the laws for several trees in the same pages
+//! - `ordered`: laws of ordered look-ups: which leaf has the pair next to a bound
+//! - `calls`: what a prefix of the changes of several calls leaves
 //! - `examples`: small trees, worked out
 #![tactic(auto)]
 

@@ -1,4 +1,4 @@
-//! What each change of a page makes of several trees in the same pages.
+//! How each change of a page changes the maps of several trees in the same pages.
 
 ghost use Rattle.std.specs.Prelude.{◌≡◌, ◌≢◌, ℕ, List, [], ◌∷◌, Some, None, true, slice_get, slice_set};
 ghost use Rattle.sled_base.specs.Order.{Bytes};
@@ -16,8 +16,8 @@ ghost use Rattle.sled_search.specs.Merging.{AreUnder, AreBeside};
 ghost use Rattle.sled_search.specs.Orderly.{IsOrderly};
 ghost use Rattle.sled_search.specs.Search.{ComesToLeafOf, IsTreeOf};
 
-/// A page that no search is ever at may be changed in any way: the maps stay, and no search is at the pages where none was. A page without a
-/// node is such a page. And a change of a page is of that page alone.
+/// A page that no search ever reaches may change in any way: the maps stay as they are, and no search reaches a page that none reached before.
+/// A page without a node is such a page. A change of a page changes only that page.
 pub fn a_page_off_all_trees_may_change()
     ensures trees { (pages changed : List Content) (maps : Maps) (p : ℕ) → AreTrees pages maps
         → IsOff pages maps p → ChangesOne pages p changed → AreTrees changed maps }
@@ -29,14 +29,14 @@ pub fn a_page_off_all_trees_may_change()
         → ChangesOne pages id (contents_from pages (Change id update)) }
 {}
 
-/// A page that is written again as it is, as one that is moved in the log, leaves all pages as they are.
+/// Writing a page again with the content that it has leaves all pages as they are. Moving a page in the log does this.
 pub fn a_page_that_is_written_again_stays()
     ensures { (pages : List Content) (id : ℕ) (content : Content)
         → slice_get pages id ≡ Some content → contents_from pages (Change id (Put content)) ≡ pages }
 {}
 
-/// Whatever the pages are, they may be no maps, and where they are a tree, that one map. An index over all keys, which leads to an empty
-/// leaf, is one more, if no search is at either page.
+/// Any pages count as no maps at all, and a tree whose pages are in order as one map. An index over all keys whose only child is an empty leaf
+/// is one more map, if no search reaches either of the two pages.
 pub fn a_new_tree_is_one_map_more()
     ensures none { (pages : List Content) → AreTrees pages no_maps }
     ensures alone { (pages : List Content) (root : ℕ) (m : Map) → IsTreeOf pages root m
@@ -47,8 +47,8 @@ pub fn a_new_tree_is_one_map_more()
         → slice_get pages leaf ≡ Some (Node empty_leaf) → AreTrees pages (with_map root [] maps) }
 {}
 
-/// Without one of the trees the others are the maps that they were, and no search is at a page that was reached from its root: so each
-/// may be freed.
+/// Dropping one of the trees leaves the others as the maps that they were. No search of these reaches a page that was reached from the dropped
+/// root, so each such page may be freed.
 pub fn a_tree_that_is_dropped_leaves_the_others()
     ensures trees { (pages : List Content) (maps : Maps) (root : ℕ) → AreTrees pages maps
         → AreTrees pages (without_map root maps) }
@@ -56,8 +56,8 @@ pub fn a_tree_that_is_dropped_leaves_the_others()
         → HasTree maps root → Reaches pages root page → IsOff pages (without_map root maps) page }
 {}
 
-/// A key that is set in the leaf to which its search comes from a root is set in that root's map, and all others stay; and one that is taken
-/// out there is taken out of that map.
+/// Setting a key in the leaf that its search from a root comes to sets it in that root's map. Deleting it there deletes it from that map. All
+/// other maps stay as they are.
 pub fn a_leaf_that_is_changed_changes_one_map()
     ensures set { (pages : List Content) (maps : Maps) (root : ℕ) (m : Map) → AreTrees pages maps
         → maps root ≡ Some m → (p : ℕ) (n : WholeNode) → slice_get pages p ≡ Some (Node n)
@@ -72,8 +72,8 @@ pub fn a_leaf_that_is_changed_changes_one_map()
         (with_map root (del_pair (whole n stored) m) maps) }
 {}
 
-/// A node that is split leaves all maps, whether its left part is put in its place or an index over both parts is, if no search is at the
-/// pages of the parts yet.
+/// Splitting a node that a search from a root reaches leaves all maps as they are, whether its left part or an index over both parts replaces it.
+/// No search may reach the new pages of the parts before that.
 pub fn a_node_that_is_split_leaves_the_maps()
     ensures in_place { (pages : List Content) (maps : Maps) (root : ℕ) → AreTrees pages maps
         → HasTree maps root → (p many : ℕ) (n l r : WholeNode) → Reaches pages root p
@@ -90,7 +90,7 @@ pub fn a_node_that_is_split_leaves_the_maps()
         (slice_set pages p (Node (index_of (([], Child left) ∷ (r.lo, Child right) ∷ [])))) maps }
 {}
 
-/// An index that is led to one more child, as by the law of one tree, leaves all maps.
+/// Adding a child to an index that a search from a root reaches leaves all maps as they are, on the conditions of the law of one tree.
 pub fn a_child_that_is_added_leaves_the_maps()
     ensures { (pages : List Content) (maps : Maps) (root : ℕ) → AreTrees pages maps
         → HasTree maps root → (q : ℕ) (n : WholeNode) (at : Bytes) (page : ℕ)
@@ -101,10 +101,10 @@ pub fn a_child_that_is_added_leaves_the_maps()
         → AreTrees (slice_set pages q (Node (with_child at page n))) maps }
 {}
 
-/// An index leads to two nodes by one pair and the next, and the left one leads on to the right one. Without the pair to the right one it
-/// leaves all maps: searches go to the right one by the left one then. So the two lie as the law below has them.
+/// Removing a child from an index leaves all maps as they are, if the pair before leads to the child's left neighbour, and that neighbour leads on
+/// to the child. Searches then reach the child through its left neighbour. So the two nodes meet the conditions of the law below.
 ///
-/// It is what the two links of a merge make of an index of which no child is being merged.
+/// The two links of a merge have this effect on an index of which no child is being merged.
 pub fn a_child_that_is_taken_out_leaves_the_maps()
     ensures trees { (pages : List Content) (maps : Maps) (root : ℕ) → AreTrees pages maps
         → HasTree maps root → (above : ℕ) (n : WholeNode) (left : ℕ) (l : WholeNode) (right : ℕ)
@@ -120,10 +120,10 @@ pub fn a_child_that_is_taken_out_leaves_the_maps()
         ≡ record n { pairs = without_child page n.pairs } }
 {}
 
-/// A node takes in its right neighbour, to which it leads a search for the neighbour's beginning. All maps stay, and no search is at the
-/// neighbour any more, so that its page may be freed: since pages are in order, none came there in another way.
+/// Merging the right neighbour into a node leaves all maps as they are, if the node leads a search for the neighbour's beginning on to the
+/// neighbour. After that no search reaches the neighbour, so its page may be freed: the pages are in order, so no search came there another way.
 ///
-/// Where an index leads to the neighbour too, that pair is taken out first, by the law above.
+/// If an index leads to the neighbour too, that pair is removed first, by the law above.
 pub fn a_node_that_takes_in_its_neighbour_leaves_the_maps()
     ensures trees { (pages : List Content) (maps : Maps) (root : ℕ) → AreTrees pages maps
         → HasTree maps root → (left : ℕ) (l : WholeNode) (right : ℕ) (r : WholeNode)

@@ -1,4 +1,4 @@
-//! Where the pair next to a bound is: the laws of ordered look-ups.
+//! Laws of ordered look-ups: which leaf has the pair next to a bound.
 
 ghost use Rattle.std.specs.Prelude.{◌≡◌, ◌≢◌, ◌<◌, ◌≤◌, ℕ, suc, List, [], Option, Some, None, length, slice_get};
 ghost use Rattle.std.specs.declared.ops.Bound.{Bound};
@@ -11,8 +11,8 @@ ghost use Rattle.sled_search.specs.Map.{Map};
 ghost use Rattle.sled_search.specs.Ordered.{IsNextAbove, IsNextBelow, start_of, IsLeafBefore, LeadsBefore, IsAstrayBefore, GoesBefore, GoesUp, GoesDown};
 ghost use Rattle.sled_search.specs.Search.{HasNodeAt, ComesToLeafOf, IsTreeOf};
 
-/// The first pair behind a bound is that of the leaf to which the search for the bound's key comes. Where that leaf has none, it is the first
-/// pair from the leaf's end on; and where the leaf has no end, there is none.
+/// The first pair after a bound is in the leaf that the search for the bound's key comes to. If that leaf has no pair after the bound, the result
+/// is the first pair from the leaf's end on; and if the leaf has no end either, there is no such pair.
 pub fn the_first_pair_behind_a_bound()
     ensures here { (pages : List Content) (root : ℕ) (m : Map) → IsTreeOf pages root m
         → (bound : Bound Bytes) (leaf : ℕ)
@@ -32,8 +32,8 @@ pub fn the_first_pair_behind_a_bound()
         → IsNextAbove m bound None }
 {}
 
-/// One leaf behind another, each the leaf of the end of the one before, are at most as many as the pages; so are those that are each before
-/// the beginning of the one before.
+/// A walk from leaf to leaf visits at most as many leaves as there are pages. Upwards, each leaf is that of the end of the leaf before it.
+/// Downwards, each is that of the keys just before the beginning of the leaf before it.
 pub fn leaves_in_a_row_are_few()
     ensures up { (pages : List Content) (root leaves : ℕ) (from to : Bound Bytes)
         → GoesUp pages root from leaves to → leaves ≤ length pages }
@@ -50,8 +50,8 @@ pub fn leaves_in_a_row_are_few()
         → GoesDown pages root from (suc leaves) (Excluded n.lo) }
 {}
 
-/// A search for the keys right before a bound, where a key may be before it, takes fewer turns than a tree has pages, and is at no page
-/// that neither has these keys in a leaf nor leads on.
+/// A search for the keys just before a bound takes fewer turns than there are pages, if a key can be before the bound. Each node that it visits
+/// is a leaf with these keys or leads the search further.
 pub fn a_search_before_a_bound_ends()
     ensures then { (pages : List Content) (bound : Bound Bytes) (turns from at to : ℕ)
         → GoesBefore pages bound turns from at
@@ -65,8 +65,8 @@ pub fn a_search_before_a_bound_ends()
         → GoesBefore pages bound turns root at → HasNodeAt pages at (IsAstrayBefore bound) → ⊥ }
 {}
 
-/// The last pair before a bound is that of the leaf to which the search for the keys right before it comes. Where that leaf has none, it is
-/// the last pair below the leaf's beginning; and where it begins with the empty key, there is none.
+/// The last pair before a bound is in the leaf that the search for the keys just before the bound comes to. If that leaf has no pair before the
+/// bound, the result is the last pair below the leaf's beginning; and if the leaf begins with the empty key, there is no such pair.
 pub fn the_last_pair_before_a_bound()
     ensures here { (pages : List Content) (root : ℕ) (m : Map) → IsTreeOf pages root m
         → (bound : Bound Bytes) → IsBefore bound [] → (turns leaf : ℕ)

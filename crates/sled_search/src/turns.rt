@@ -1,4 +1,4 @@
-//! Where a node leads a key.
+//! Where a node leads a search for a key.
 
 ghost use Rattle.sled_base.specs.Order.{Bytes};
 ghost use Rattle.sled_node.specs.Node.{IsInRange};
@@ -7,23 +7,23 @@ ghost use Rattle.sled_search.specs.Routes.{Routes};
 use sled_base::PageId;
 use sled_node::Node;
 
-/// Where to look next for a key.
+/// Where a search for a key looks next.
 #[derive(Clone, Copy, Debug, PartialEq, Eq)]
 pub enum Turn {
-    /// Nowhere else: this leaf has the key, if any has.
+    /// Nowhere else: if any leaf has the key, it is this one.
     Here,
-    /// To a child.
+    /// In this child.
     Down(PageId),
-    /// To the node to the right, which has what this one had before it was split.
+    /// In the next node to the right, which received a part of this node's range when this node was split.
     Right(PageId),
-    /// The node has no answer, and leads nowhere: in a tree no search comes to such a node.
+    /// Nowhere: the node is not a leaf of the key and leads nowhere. In a tree, no search comes to such a node.
     Astray,
 }
 
-/// Where a node leads a whole key.
+/// Returns where a node leads a search for a whole key.
 ///
-/// It is [`Turn::Here`] at a leaf with the key in its range, [`Turn::Down`] at an index with the key in its range that has a child for it,
-/// and [`Turn::Right`] at a node that lacks the key in its range and leads on to another one. Else it is [`Turn::Astray`].
+/// The result is [`Turn::Here`] at a leaf whose range has the key, and [`Turn::Down`] at an index whose range has the key and that has a child
+/// for it. It is [`Turn::Right`] at a node whose range lacks the key and that has a next node. Otherwise it is [`Turn::Astray`].
 pub fn route(node: &Node, key: &[u8]) -> Turn
     ensures { Routes key.now result node.now }
 {

@@ -1,4 +1,4 @@
--- What is entered of a call, and which calls of the page cache in a row that is, each with its answer.
+-- What is entered for a call, and which calls of the page cache in a row an entry is, each with its answer.
 use Rattle.std.specs.Prelude.{◌≡◌, ◌⊎◌, ℕ, List, [], ◌∷◌, ◌++◌, Result, Ok, Err, ⊤}
 use Rattle.std.specs.Global.{Vec}
 use Rattle.sled_base.specs.Errors.{error_of}
@@ -16,13 +16,13 @@ use Rattle.sled_shared.specs.declared.calls.Swap.TheVariants as swap
 use Rattle.sled_shared.specs.declared.calls.SwapAnswer.{SwapAnswer}
 use Rattle.sled_shared.specs.declared.calls.SwapAnswer.TheVariants as swapped
 
--- what was asked: a call of the page cache, or several of them in a row
+-- the request: a call of the page cache, or several of them in a row
 pub data Request : Type 0 where
   Asked : Call → Request
   OpenTree : Bytes → Request
   Batch : List Swap → Request
 
--- What was answered. A batch that failed has the answers before the fault.
+-- The answer. A batch that failed has the answers before the error.
 pub data Reply : Type 0 where
   Answered : Answer → Reply
   Opened : Result ℕ Error → Reply
@@ -35,7 +35,7 @@ pub record Entry : Type 0 where
 abbrev pub entry : Request → Reply → Entry
 entry call answer = record { call = call; answer = answer }
 
--- the answer is this refusal, of a batch before any of its swaps
+-- the answer is this error; for a batch, before any of its swaps
 abbrev pub IsRefusal : Reply → Error → Type 0
 IsRefusal (Answered (Allocated result)) e = result ≡ Err e
 IsRefusal (Answered (Got result)) e = result ≡ Err e
@@ -48,7 +48,7 @@ IsRefusal (Answered (Generated result)) e = result ≡ Err e
 IsRefusal (Answered (Flushed result)) e = result ≡ Err e
 IsRefusal (Opened result) e = result ≡ Err e
 IsRefusal (Batched result) e = result ≡ Err (e, [])
--- nobody asks for another
+-- no request has another answer
 IsRefusal answer e = ⊥
 
 -- the call of the cache that a swap of a batch is, and its answer
@@ -62,13 +62,13 @@ answer_of (swapped.Link answer) = Linked (Ok answer)
 answer_of (swapped.Replace answer) = Replaced (Ok answer)
 answer_of (swapped.Free answer) = Freed (Ok answer)
 
--- its answer where it is refused
+-- the answer of a swap that is refused
 abbrev pub refusal_of : Swap → Error → Answer
 refusal_of (swap.Link old link) e = Linked (Err e)
 refusal_of (swap.Replace old node) e = Replaced (Err e)
 refusal_of (swap.Free old) e = Freed (Err e)
 
--- These calls were made of the swaps: all of them, or those before the one that was refused, and it.
+-- These calls were made for the swaps: for all of them, or for those up to the one that was refused.
 abbrev pub AreSwaps : List Swap → Result (Unit {0}) Error → List SwapAnswer → MadeCalls → Type 0
 AreSwaps [] (Ok done) [] calls = calls ≡ []
 AreSwaps [] (Ok done) (answer ∷ answers) calls = ⊥
@@ -82,17 +82,17 @@ abbrev pub answered : Result (Unit {0}) Refusal → Result (Unit {0}) Error
 answered (Ok done) = Ok done
 answered (Err refusal) = Err (error_of refusal)
 
--- and of a batch of them, with the answers of those that were made
+-- how a batch of them ended, with the answers of those that were made
 abbrev pub with_answers : Result (Unit {0}) Error → List SwapAnswer → Result (List SwapAnswer) (Error × List SwapAnswer)
 with_answers (Ok done) answers = Ok answers
 with_answers (Err e) answers = Err (e, answers)
 
--- a batch's answer, with its list as contracts see one
+-- the answer of a batch, with a list for its vector
 abbrev pub batched : Result (Vec SwapAnswer) (Error × Vec SwapAnswer) → Result (List SwapAnswer) (Error × List SwapAnswer)
 batched (Ok answers) = Ok answers.items
 batched (Err (e, answers)) = Err (e, answers.items)
 
--- The batch is opened, the swaps are made, and it is sealed. Where a swap is refused it is cancelled, and what that answers is passed over.
+-- The batch is opened, the swaps are made, and the batch is sealed. If a swap is refused, the batch is cancelled, with any answer of that call.
 abbrev pub IsBatch : List Swap → Result (List SwapAnswer) (Error × List SwapAnswer) → MadeCalls → Type 0
 IsBatch swaps (Ok answers) calls = (inner : MadeCalls) × AreSwaps swaps (Ok tt) answers inner × (calls ≡ with_pin (inner ++ (call.Seal, Sealed (Ok tt)) ∷ []))
 IsBatch swaps (Err (e, answers)) calls =
@@ -105,5 +105,5 @@ abbrev pub IsEntry : Request → Reply → MadeCalls → Type 0
 IsEntry (Asked asked) (Answered answer) calls = calls ≡ (asked, answer) ∷ []
 IsEntry (OpenTree name) (Opened result) calls = AreCallsOf ⊤ name result calls
 IsEntry (Batch swaps) (Batched result) calls = IsBatch swaps result calls
--- what was asked gets no other answer
+-- no request gets another answer
 IsEntry asked answer calls = ⊥

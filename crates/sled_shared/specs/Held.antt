@@ -13,7 +13,7 @@ use Rattle.sled_shared.specs.Book.{Book, book, AreEntries, IsShapeOf, ReplaysTo}
 use Rattle.sled_shared.specs.Calls.{Entry, IsEntry, IsRefusal, Reply, Request, entry}
 use Rattle.sled_shared.specs.History.{HasAll, Line, Writes, written_by}
 
--- what a contract sees of the locked value: the cache, the book, its limit, the shares given out and those left
+-- the value of the locked object in contracts: the cache, the book, its limit, and the numbers of shares given out and left
 pub record Held (L : Type 0) : Type 0 where
   pub cache : Cache L
   pub book : Book
@@ -28,7 +28,7 @@ held cache b limit given left = record { cache = cache; book = b; limit = limit;
 abbrev pub Told : Type 0
 Told = Line Entry
 
--- What a contract sees of a share: its number, and what it has seen of the one history of all shares.
+-- The value of a share in contracts: its number, and what it has seen of the one history of all shares.
 pub record Share : Type 0 where
   pub number : ℕ
   pub seen : List Told
@@ -36,7 +36,7 @@ pub record Share : Type 0 where
 abbrev pub share : ℕ → List Told → Share
 share number seen = record { number = number; seen = seen }
 
--- What a contract sees of a ledger and a history that no cache has yet: the ledger's name and parts, and the history's name.
+-- The value in contracts of a ledger and a history that no cache uses yet: the ledger's name and parts, and the history's name.
 pub record Blank : Type 0 where
   pub name : ℕ
   pub parts : ℕ
@@ -45,12 +45,12 @@ pub record Blank : Type 0 where
 abbrev pub blank : ℕ → ℕ → ℕ → Blank
 blank name parts history = record { name = name; parts = parts; history = history }
 
--- how many calls of the share were entered
+-- the number of calls of the share that were entered
 abbrev pub count_of : Share → ℕ
 count_of s = length (written_by s.number s.seen)
 
--- The call was entered for the share with this answer: it is the last that the share has seen, behind all that it had seen and what others
--- did meanwhile, and the share's one call more.
+-- The call was entered for the share with this answer. It is the last entry that the share has seen, after all that it had seen before and what
+-- others did since then, and it is the share's only new call.
 abbrev pub HasTold : Share → Entry → Share → Type 0
 HasTold s e t = (t.number ≡ s.number) × Writes s.number s.seen e t.seen
 
@@ -60,21 +60,21 @@ pub record IsHistoryOf (log : List Told) (earlier : ℕ) (entries : List Entry) 
   pub many : length before ≡ earlier
   pub all : map (λ line. line.1) log ≡ before ++ entries
 
--- It is kept under the name that its shares know.
+-- The history has the name that its shares know, and these entries.
 pub record IsKept (known name : ℕ) (log : List Told) (earlier : ℕ) (entries : List Entry) : Type 0 where
   pub named : name ≡ known
   pub of : IsHistoryOf log earlier entries
 
--- There is one history that ends with the book's entries, of which each of the shares has seen a beginning, with all calls that it made.
+-- There is one history that ends with the book's entries. Each of the shares has seen a prefix of it, with all calls that the share made.
 abbrev pub AreOfBook : List Share → Book → Type 0
 AreOfBook shares b = (log : List Told) × IsHistoryOf log b.earlier b.entries × All (λ s. HasAll s.number s.seen log) shares
 
--- how many calls were entered since the opening
+-- the number of calls that were entered since the opening
 abbrev pub calls_of : Book → ℕ
 calls_of b = b.earlier + length b.entries
 
 module _ {L : Type 0} (g : Ghosts L) (known : Type 0) where
-  -- The book is one of this cache: its calls were made one after another, of a cache that had its opening shape, and left this one.
+  -- The book is one of this cache: its calls were made one after another, on a cache that had its opening shape, and they left this cache.
   pub record IsBookOf (b : Book) (cache : Cache L) : Type 0 where
     pub opened : Cache L
     pub shows : Shows g opened b.opening
@@ -84,7 +84,7 @@ module _ {L : Type 0} (g : Ghosts L) (known : Type 0) where
     pub are : AreEntries b.entries calls
     pub made : AreMade g opened calls cache
 
-  -- What the type keeps. The ledger's total is the number of calls, and the shares given out have all of it, one part each.
+  -- The invariant of the type. The ledger's total is the number of calls, and the shares that were given out have all of it, with one part each.
   pub record IsSound (h : Held L) (total parts amount all : ℕ) : Type 0 where
     pub of : IsBookOf h.book h.cache
     pub closed : h.cache.batch ≡ false
@@ -96,15 +96,15 @@ module _ {L : Type 0} (g : Ghosts L) (known : Type 0) where
     pub whole : h.left + h.given ≡ all
     pub bounded : all < 2 ^ 64
 
--- The book is legal by a replay that ends in a state in which the cache is.
+-- The book is legal, by a replay that ends in a state that the cache has.
 abbrev pub ReplaysIn : {L : Type 0} → Ghosts L → Book → Cache L → Type 0
 ReplaysIn g b cache = (at : Logged) × (last : State) × Represents g cache at last × ReplaysTo cache.config.idgen_persist_interval b last
 
--- The same, and the next book opens in that state's shape.
+-- The same, and the next book opens in the shape of that state.
 abbrev pub EndsBefore : {L : Type 0} → Ghosts L → Book → Cache L → Book → Type 0
 EndsBefore g b cache next = (at : Logged) × (last : State) × Represents g cache at last × ReplaysTo cache.config.idgen_persist_interval b last × IsShapeOf last next.opening
 
--- the book has no room for a call: it is at its limit, or the number of calls would pass the greatest u64
+-- the book has no room for a call: it is at its limit, or the number of calls would be above the greatest u64
 abbrev pub is_full : {L : Type 0} → Held L → Bool
 is_full h = nat_le h.limit (length h.book.entries) || (calls_of h.book == 2 ^ 64 - 1)
 
@@ -113,8 +113,8 @@ abbrev pub with_entry : Book → Request → Reply → Book
 with_entry b call answer = book b.earlier b.opening (b.entries ++ entry call answer ∷ [])
 
 module _ {L : Type 0} (g : Ghosts L) where
-  -- The call is one entry of the book, and counts in the caller's share. It is calls of the cache, made one after another: steps, in
-  -- whatever state the cache is, and a crash at any moment of them leaves a prefix of what they write. Nothing else changes.
+  -- The call is one entry of the book, and counts in the caller's share. It makes calls of the cache, one after another. These are steps from any
+  -- state that the cache may have, and a crash at any moment of them leaves a prefix of what they write. Nothing else changes.
   pub record IsEntered (old : Held L) (mine : Share) (call : Request) (answer : Reply) (new : Held L) (mine' : Share) : Type 0 where
     pub calls : MadeCalls
     pub are : IsEntry call answer calls
@@ -124,24 +124,24 @@ module _ {L : Type 0} (g : Ghosts L) where
     pub told : HasTold mine (entry call answer) mine'
     pub rest : (new.limit ≡ old.limit) × (new.given ≡ old.given) × (new.left ≡ old.left)
 
-  -- The call isn't asked: nothing changes, and it is refused.
+  -- The call is left out: nothing changes, and it is refused.
   abbrev pub IsLeftOut : Held L → Share → Type 0 → Held L → Share → Type 0
   IsLeftOut old mine refused new mine' = (new ≡ old) × (mine' ≡ mine) × refused
 
-  -- Where the book is full, the call is left out. Else it is entered, unless there is no memory for the entry.
+  -- If the book is full, the call is left out. Otherwise it is entered, unless there is no memory for the entry.
   abbrev pub Serves : Held L → Share → Request → Reply → Held L → Share → Type 0
   Serves old mine call answer new mine' =
       MatchBool (is_full old)
       (IsLeftOut old mine (IsRefusal answer (Unsupported BookFull)) new mine')
       (IsEntered old mine call answer new mine' ⊎ IsLeftOut old mine (IsRefusal answer OutOfMemory) new mine')
 
--- A new round: the book opens with the cache's shape, behind the calls of the books before it.
+-- A new round: the book opens with the cache's shape, after the calls of the books before it.
 pub record IsNewRound {L : Type 0} (g : Ghosts L) (earlier : ℕ) (cache : Cache L) (b : Book) : Type 0 where
   pub behind : b.earlier ≡ earlier
   pub shows : Shows g cache b.opening
   pub none : b.entries ≡ []
 
--- What a caller of the shared cache knows of its call: it was entered for its share with the answer that came. Only where the book was full,
--- or memory was wanting, it may have been left out.
+-- What a caller of the shared cache knows of its call: it was entered for its share with the answer that the caller got. Only if the answer is
+-- `BookFull` or `OutOfMemory`, it may have been left out.
 abbrev pub Tells : Share → Request → Reply → Share → Type 0
 Tells mine call answer mine' = HasTold mine (entry call answer) mine' ⊎ ((mine' ≡ mine) × (IsRefusal answer (Unsupported BookFull) ⊎ IsRefusal answer OutOfMemory))

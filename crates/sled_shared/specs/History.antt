@@ -1,4 +1,4 @@
--- A history of entries that exists in the proofs alone, and what its tokens own.
+-- A history of entries that exists only in the proofs, and what its tokens own.
 use Rattle.std.specs.Prelude.{◌≡◌, ℕ, ◌==◌, Bool, true, false, List, [], ◌∷◌, ◌++◌, map, reverse, length}
 use base.Fraction.{full_share}
 use base.Stored.{Gv, gnum, gcons, Coded, coded×, coded_ℕ}
@@ -24,20 +24,20 @@ abbrev pub written_by : {E : Type 0} → ℕ → List (Line E) → List E
 written_by by [] = []
 written_by by (line ∷ log) = with_entry_if (line.0 == by) line.1 (written_by by log)
 
--- The pen has written this entry, behind all that it had seen and what others wrote meanwhile.
+-- The pen has written this entry, after all that it had seen and what others wrote since then.
 abbrev pub Writes : {E : Type 0} → ℕ → List (Line E) → E → List (Line E) → Type 0
 Writes {E} by seen e after = (between : List (Line E)) × (written_by by between ≡ []) × (after ≡ (seen ++ between) ++ (by, e) ∷ [])
 
--- The pen has seen a beginning of the history, and all that it wrote.
+-- The pen has seen a prefix of the history, which has all that the pen wrote.
 abbrev pub HasAll : {E : Type 0} → ℕ → List (Line E) → List (Line E) → Type 0
 HasAll {E} by seen log = (others : List (Line E)) × (written_by by others ≡ []) × (log ≡ seen ++ others)
 
--- Each pen has a count that only grows. Of each line, newest first, it is known that its pen had counted as many by then.
+-- Each pen has a count that only grows. For each line, newest first, it is known that its pen had counted at least that many entries by then.
 abbrev pub counted : {E : Type 0} → List (Line E) → Fml
 counted [] = ftrue
 counted (line ∷ older) = fsep (at_least numbers line.0 (length (written_by line.0 (line ∷ older)))) (counted older)
 
--- A code as it is, so that the order of the logs names no type parameter.
+-- The code of a code is itself, so that the order of the logs names no type parameter.
 abbrev pub itself : Coded Gv
 itself = record { code = λ g. g; inj = λ x y p. p }
 

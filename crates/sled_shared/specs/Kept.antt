@@ -1,4 +1,4 @@
--- How an entry keeps a call and its answer: what follows of the answer from the call isn't kept twice.
+-- How an entry stores a call and its answer: what follows from the call is not stored again in the answer.
 use Rattle.std.specs.Prelude.{ℕ, ◌+◌, List, [], ◌∷◌, Option, Some, None, Result, Ok, Err}
 use Rattle.std.specs.Global.{Box}
 use Rattle.sled_base.specs.Errors.{error_of}
@@ -23,12 +23,12 @@ use Rattle.sled_shared.specs.declared.entry.Ending.TheVariants.{Made, Gone, Stal
 abbrev pub Kept : Type 0 → Type 0
 Kept T = Result T (Box Refusal)
 
--- the answer that is kept so
+-- the answer that is stored in this form
 abbrev pub answer_kept : {T : Type 0} → Kept T → Result T Error
 answer_kept (Ok value) = Ok value
 answer_kept (Err refusal) = Err (error_of refusal.value)
 
--- a swap's answer, which hands back the change that was asked for, or nothing
+-- the answer of a swap, which returns the change that was passed in, or nothing
 abbrev pub ended : {R : Type 0} → Token → R → Ending → Result Token (Option (Token × R))
 ended old change Made = Ok (token old.pid (old.stamp + 1))
 ended old change Gone = Err None
@@ -50,7 +50,7 @@ root_kept name (Ok (Some root)) = Ok root
 root_kept name (Ok None) = Err (CollectionNotFound name)
 root_kept name (Err refusal) = Err (error_of refusal.value)
 
--- the answers of swaps, as far as they were made
+-- the answers of the swaps that were made
 abbrev pub swap_ended : Swap → Ending → SwapAnswer
 swap_ended (swap.Link old link) ending = swapped.Link (ended old link ending)
 swap_ended (swap.Replace old node) ending = swapped.Replace (ended old node ending)
@@ -60,7 +60,7 @@ abbrev pub swaps_ended : List Swap → List Ending → List SwapAnswer
 swaps_ended (one ∷ swaps) (ending ∷ endings) = swap_ended one ending ∷ swaps_ended swaps endings
 swaps_ended swaps endings = []
 
--- and of a batch of them
+-- the answer of a batch of them
 abbrev pub batch_kept : List Swap → List Ending → Kept (Unit {0}) → Result (List SwapAnswer) (Error × List SwapAnswer)
 batch_kept swaps endings (Ok done) = Ok (swaps_ended swaps endings)
 batch_kept swaps endings (Err refusal) = Err (error_of refusal.value, swaps_ended swaps endings)

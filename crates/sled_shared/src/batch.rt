@@ -1,6 +1,6 @@
-//! Batches of a held cache: swaps that stand together.
+//! Batches of a held cache: swaps of which a crash leaves all or nothing.
 
-ghost use Rattle.std.specs.Prelude.{◌≡◌, ℕ, ◌+◌, ◌≤◌, ◌++◌, ◌∷◌, [], false, length, vec_len, vec_capacity, IfOk, IfErr, IsSome};
+ghost use Rattle.std.specs.Prelude.{◌≡◌, ◌≤◌, [], false, length, vec_len, vec_capacity, IfOk, IfErr, IsSome};
 ghost use Rattle.sled_base.specs.Errors.{error_of};
 ghost use Rattle.sled_pagecache.specs.Rows.{AreMade, IsMade};
 ghost use Rattle.sled_pagecache.specs.Trees.{MadeCalls};

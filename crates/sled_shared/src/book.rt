@@ -1,4 +1,4 @@
-//! The book of a round: the calls that were made, in their order, with their answers.
+//! The book of a round: the calls that were made, in order, with their answers.
 
 ghost use Rattle.std.specs.Prelude.{◌≡◌};
 
@@ -6,9 +6,9 @@ use crate::entry::Entry;
 use sled_pagecache::Shape;
 use std::marker::Model;
 
-/// The calls of one round, and the shape in which it opened.
+/// The calls of one round, and the cache's shape at its beginning.
 ///
-/// Contracts see how many calls the books before it have, the shape, and the entries.
+/// In contracts, the value of a book is the number of calls in the books before it, the shape, and the entries.
 #[derive(Debug, Drop)]
 pub struct Book {
     earlier: u64,
@@ -37,21 +37,21 @@ impl Book {
         }
     }
 
-    /// How many calls the books before it have.
+    /// Returns the number of calls in the books before this one.
     pub fn earlier(&self) -> u64
         ensures { result ≡ self.now.earlier }
     {
         self.earlier
     }
 
-    /// The cache's shape as the round began.
+    /// Returns the cache's shape at the beginning of the round.
     pub fn opening(&self) -> &Shape
         ensures { result.now ≡ self.now.opening }
     {
         &self.opening
     }
 
-    /// Its calls, in order.
+    /// Returns the calls of the round, in order.
     pub fn entries(&self) -> &[Entry]
         ensures { result.now ≡ self.now.entries }
     {

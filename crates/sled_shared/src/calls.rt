@@ -1,4 +1,4 @@
-//! The swaps of a batch, and what each answered.
+//! The swaps of a batch, and the answer of each.
 
 ghost use Rattle.std.specs.Prelude.{◌≡◌};
 
@@ -6,14 +6,14 @@ use sled_node::{Link, Node};
 use sled_pagecache::PageView;
 use std::alloc::AllocError;
 
-/// A swap of a batch, with its arguments. It names its page by its token.
+/// A swap of a batch, with its arguments. The token names the page.
 #[derive(Debug, Drop)]
 pub enum Swap {
-    /// A link, as `link` applies it.
+    /// Applies a link to the page's node, as `link` does.
     Link(PageView, Link),
-    /// Another node, as `replace` puts it there.
+    /// Replaces the page's node, as `replace` does.
     Replace(PageView, Node),
-    /// No page, as `free` leaves it.
+    /// Frees the page, as `free` does.
     Free(PageView),
 }
 
@@ -22,7 +22,7 @@ impl Clone for Swap {
 
     ghost is_clone = { λ v w. w ≡ v };
 
-    /// The same swap; byte strings above 22 bytes are shared. An error means that an allocation failed.
+    /// Returns the same swap; byte strings above 22 bytes are shared. An error means that an allocation failed.
     fn clone(&self) -> Result<Swap, AllocError> {
         Ok(match self {
             Swap::Link(old, link) => Swap::Link(*old, link.clone()?),
@@ -32,10 +32,10 @@ impl Clone for Swap {
     }
 }
 
-/// What a swap of a batch answered, unless it was refused: what the call of its name answers.
+/// The answer of a swap of a batch that was not refused: what the call of the same name returns.
 #[derive(Debug, Drop)]
 pub enum SwapAnswer {
-    /// The next token; or the present one with the link; or none, where there is no such page.
+    /// The next token; or, as an error, the current token with the link, or `None` if there is no such page.
     Link(Result<PageView, Option<(PageView, Link)>>),
     /// The same with the node.
     Replace(Result<PageView, Option<(PageView, Node)>>),

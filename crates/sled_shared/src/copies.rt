@@ -1,4 +1,4 @@
-//! Copies of what was asked, and of a node that was found: one is given, and one is entered.
+//! Copies of the arguments of a call, and of a node that was found: one is passed on, and one is entered.
 
 ghost use Rattle.std.specs.Prelude.{◌≡◌, IfOk, IsSome};
 ghost use Rattle.sled_pagecache.specs.Rows.{IsMade};

@@ -1,6 +1,6 @@
 //! A crew: one thread for each share, which draws ids.
 
-ghost use Rattle.std.specs.Prelude.{◌≡◌, ℕ, ◌+◌, ◌≤◌, ◌++◌, [], true, map, vec_len, vec_capacity, IfErr, IfNone, IfOk, IfSome, if◌then◌else◌};
+ghost use Rattle.std.specs.Prelude.{◌≡◌, ◌+◌, ◌≤◌, ◌++◌, [], true, map, vec_len, vec_capacity, IfErr, IfNone, IfOk, IfSome, if◌then◌else◌};
 ghost use Rattle.sled_shared.specs.Held.{count_of};
 
 use crate::handle::SharedPageCache;
@@ -12,12 +12,12 @@ use std::sync::{Arc, Wait};
 use std::thread;
 use std::thread::{Promise, PromisedHandle, Threads};
 
-/// What a crew tells of its calls, as they are made.
+/// What a crew calls before and after each call that it makes.
 pub trait Gate: Drop {
-    /// A worker is about to make a call.
+    /// Is called when a worker is about to make a call.
     fn before(&self, worker: usize, call: u64);
 
-    /// A worker has made a call.
+    /// Is called when a worker has made a call.
     fn after(&self, worker: usize, call: u64);
 }
 
@@ -181,11 +181,11 @@ fn join_all<K: Tally, R: Threads>(
     first
 }
 
-/// Starts a worker for each share, which draws so many ids, and waits for all of them.
+/// Starts a worker for each share, which draws `calls` ids, and waits for all of them. It returns the shares in their order.
 ///
-/// The shares come back in their order. A worker ends at its first refusal; where one was refused a call, that of the first such worker comes
-/// with the shares. Where a thread couldn't be started, `OutOfMemory` comes unless a worker was refused, its share is lost, and no later
-/// one is started.
+/// A worker ends at its first error. If workers had errors, the error of the first such worker is returned, with the shares. If a thread can't be
+/// started, its share is lost, and no later worker is started; the error is `OutOfMemory`, unless a worker had one. If there is no memory for
+/// the crew, `OutOfMemory` is returned with all shares, and no worker is started.
 pub fn run_crew<
     L: Log + Send + 'static,
     K: Tally + Send + Sync + 'static,

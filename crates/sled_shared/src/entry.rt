@@ -1,4 +1,4 @@
-//! The entries of a book: what was asked, and what was answered.
+//! The entries of a book: calls with their arguments and answers.
 
 ghost use Rattle.std.specs.Prelude.{◌≡◌};
 ghost use Rattle.sled_shared.specs.Kept.{entry_of};
@@ -10,17 +10,17 @@ use sled_pagecache::PageView;
 use std::marker::Model;
 use std::mem::size_of;
 
-/// What an entry keeps of an answer. A refusal is kept by a pointer, since most calls have none.
+/// What an entry stores of an answer. A refusal is stored as a pointer, since most calls have none.
 pub type Kept<T> = Result<T, Box<Refusal>>;
 
-/// How a swap ended. The page is the one that its token names, and a change that was handed back is the one that was asked for.
+/// How a swap ended. The page is the one that the swap's token names, and a change that was returned is the one that was passed in.
 #[derive(Clone, Copy, Debug, PartialEq, Eq)]
 pub enum Ending {
-    /// It was made: the page has the stamp after that of the token.
+    /// The swap was made: the page has the stamp after that of the token.
     Made,
     /// The page is absent or free.
     Gone,
-    /// The page has this stamp, which isn't that of the token, and the change was handed back.
+    /// The page has this stamp, which isn't that of the token, and the change was returned.
     Stale(u64),
 }
 
@@ -29,52 +29,52 @@ pub enum Ending {
 pub struct RootSwap {
     /// The name.
     pub name: IVec,
-    /// The root that was expected, or none.
+    /// The root that was expected, or `None` if the name should have none.
     pub old: Option<PageId>,
-    /// The root to give it, or none, which takes the name out.
+    /// The new root, or `None` to remove the name.
     pub new: Option<PageId>,
 }
 
-/// The swaps of a batch, and how those ended that were made. Where one was refused, it is the first that has no ending.
+/// The swaps of a batch, and how those that were made ended. If one was refused, it is the first that has no ending.
 #[derive(Debug, Drop)]
 pub struct Batch {
     /// The swaps that were asked for, in order.
     pub swaps: Vec<Swap>,
-    /// How those ended that were made.
+    /// How the swaps that were made ended.
     pub endings: Vec<Ending>,
 }
 
-/// A call with its arguments, and what it answered.
+/// A call with its arguments and its answer.
 #[derive(Debug, Drop)]
 pub enum Called {
-    /// The page's id and token.
+    /// The node, and the page's id and token.
     Allocate(Box<Node>, Kept<(PageId, PageView)>),
-    /// The page's stamp and node, or none where it is absent or free.
+    /// The page's id, and its stamp and node, or `None` if the page is absent or free.
     Get(PageId, Kept<Option<(u64, Box<Node>)>>),
-    /// The token and the link, and how it ended.
+    /// The token and the link, and how the swap ended.
     Link(Box<(PageView, Link)>, Kept<Ending>),
-    /// The token and the node, and how it ended.
+    /// The token and the node, and how the swap ended.
     Replace(Box<(PageView, Node)>, Kept<Ending>),
-    /// The token, and how it ended.
+    /// The token, and how the swap ended.
     Free(PageView, Kept<Ending>),
     /// The id.
     GenerateId(Kept<u64>),
-    /// How many bytes were written.
+    /// The number of bytes written.
     Flush(Kept<usize>),
-    /// The root page.
+    /// The name, and the root page.
     OpenTree(Box<IVec>, Kept<PageId>),
-    /// What the root was instead, where it wasn't the old one.
+    /// The swap, and what the root was instead if it wasn't the expected one.
     CasRoot(Box<RootSwap>, Kept<Result<(), Option<PageId>>>),
-    /// The root page, or none where the name has no root, which the caller was told by `CollectionNotFound`.
+    /// The name, and the root page, or `None` if the name has no root; the caller got `CollectionNotFound` for that.
     MetaPidForName(Box<IVec>, Kept<Option<PageId>>),
-    /// Whether it was sealed.
+    /// The swaps, and whether the batch was sealed.
     Batch(Box<Batch>, Kept<()>),
 }
 
-/// A call that was entered. It takes 48 bytes, and what its pointers lead to: the node of an `allocate`, a `replace` or a `get`, a link
-/// or a node with the 16 bytes of its token, a name.
+/// A call that was entered. It takes at most 48 bytes, and what its pointers lead to: the node of an `allocate`, a `replace` or a `get`, a link or a
+/// node with the 16 bytes of its token, a name, the swap of a root, the swaps of a batch, or a refusal.
 ///
-/// Contracts see the call and its answer.
+/// In contracts, the value of an entry is the call and its answer.
 #[derive(Debug, Drop)]
 pub struct Entry {
     called: Called,
@@ -98,7 +98,7 @@ impl Entry {
         Entry { called }
     }
 
-    /// The call and its answer.
+    /// Returns the call and its answer.
     pub fn called(&self) -> &Called
         ensures { entry_of result.now ≡ self.now }
     {

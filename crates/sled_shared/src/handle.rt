@@ -1,6 +1,6 @@
-//! The cache that threads share: the held cache under the one lock.
+//! The cache that threads share: the held cache under one lock.
 
-ghost use Rattle.std.specs.Prelude.{◌≡◌, ℕ, ◌<◌, false, IfOk, IfErr, IfSome, sum_by};
+ghost use Rattle.std.specs.Prelude.{◌≡◌, ◌<◌, false, IfOk, IfErr, IfSome, sum_by};
 ghost use Rattle.sled_base.specs.declared.types.Error.TheVariants.{OutOfMemory};
 ghost use Rattle.sled_pagecache.specs.State.{pid_of};
 ghost use Rattle.sled_pagecache.specs.Trees.{IsKnown};
@@ -25,12 +25,15 @@ use std::sync::{Mutex, Wait};
 
 /// A page cache for many threads: a [`Held`] under a lock.
 ///
-/// A call that takes a share is the call of [`Held`] of the same name, made while the lock is taken, so it may wait for other threads; which
-/// comes first isn't said, nor how long a call waits. `BookFull` comes where the book is at its limit, `OutOfMemory` also where there is no
-/// room for the entry: these two may leave all as it was, and each other answer is entered, and counts once in the share. What was entered stands in one history
-/// of all calls, which exists in the proofs alone: with the answer that came, behind all that the share had seen, and once.
+/// A call that takes a share makes the call of [`Held`] of the same name while it holds the lock. So it may block on other threads. Neither the
+/// order of the threads nor the time of a wait is promised.
 ///
-/// Contracts see whether the cache was recovered, and nothing else, since what lies under the lock may change at any time.
+/// A call returns `BookFull` if the book is at its limit, and `OutOfMemory` also if there is no memory for the entry. With one of these two errors
+/// the call may have been left out, and then nothing changed. With any other result the call is entered, and counts once in the share. An entered
+/// call is in one history of all calls, which exists only in the proofs: once, with the answer that the caller got, and after all that the share
+/// had seen.
+///
+/// In contracts, the value of a shared cache is only whether the cache was recovered, since what is under the lock may change at any time.
 #[derive(Drop)]
 pub struct SharedPageCache<L: Log, K: Tally> {
     recovered: bool,
@@ -46,9 +49,9 @@ impl<L: Log, K: Tally> Model for SharedPageCache<L, K> {
 }
 
 impl<L: Log, K: Tally> SharedPageCache<L, K> {
-    /// Shares a cache, of which no batch is open. A book has at most `limit` entries. There are as many shares as the ledger has parts, but one.
+    /// Shares a cache that has no open batch. A book has at most `limit` entries. There is one share less than the ledger has parts.
     ///
-    /// `blank` is the ledger's, of so many `parts`. `OutOfMemory` hands the cache back.
+    /// `blank` is that of the ledger, with the same number of `parts`. `OutOfMemory` returns the cache.
     pub fn over(
         alloc: Global,
         cache: PageCache<L>,
@@ -67,7 +70,7 @@ impl<L: Log, K: Tally> SharedPageCache<L, K> {
         Ok(SharedPageCache::of(held))
     }
 
-    /// Puts a held cache under a lock. The shares that were taken of it go on.
+    /// Puts a held cache under a lock. The shares that were taken of it stay valid.
     pub fn of(held: Held<L, K>) -> SharedPageCache<L, K>
         ensures { result ≡ held.cache.recovered }
     {
@@ -77,21 +80,21 @@ impl<L: Log, K: Tally> SharedPageCache<L, K> {
         }
     }
 
-    /// A share for one thread more, or none where all were given out. It may wait.
+    /// Returns a share for one more thread, or `None` if all were given out. It may block on the lock.
     pub fn share<R: Wait>(&self, rt: &R) -> Option<Share<K>>
         ensures { IfSome result (λ s. count_of s ≡ 0) }
     {
         self.held.lock(rt).share()
     }
 
-    /// Whether both system pages were found in the log. It takes no lock.
+    /// Returns whether both system pages were found in the log when the cache was opened. It takes no lock.
     pub fn was_recovered(&self) -> bool
         ensures { result ≡ self.now }
     {
         self.recovered
     }
 
-    /// Puts a node on a page.
+    /// Puts a node on a free or new page, and returns the page's id and token.
     #[tactic(auto, using(crate::proofs::Replays::serves_tells))]
     pub fn allocate<R: Wait>(
         &self,
@@ -104,7 +107,7 @@ impl<L: Log, K: Tally> SharedPageCache<L, K> {
         self.held.lock(rt).allocate(node, mine)
     }
 
-    /// A page's token and a copy of its node.
+    /// Returns a page's token and a copy of its node, or `None` if the page is absent or free.
     #[tactic(auto, using(crate::proofs::Replays::serves_tells))]
     pub fn get<R: Wait>(
         &self,
@@ -117,7 +120,8 @@ impl<L: Log, K: Tally> SharedPageCache<L, K> {
         self.held.lock(rt).get(pid, mine)
     }
 
-    /// Applies a link to the node of a page that is still at that stamp. Otherwise the link comes back, with the page's token.
+    /// Applies a link to the node of a page that is still at the token's stamp, and returns the new token. Otherwise it returns the current token and
+    /// the link as the inner error, or `None` if the page is absent or free.
     #[tactic(auto, using(crate::proofs::Replays::serves_tells))]
     pub fn link<R: Wait>(
         &self,
@@ -133,7 +137,8 @@ impl<L: Log, K: Tally> SharedPageCache<L, K> {
         self.held.lock(rt).link(pid, old, link, mine)
     }
 
-    /// Puts a node on a page that is still at that stamp. Otherwise the node comes back, with the page's token.
+    /// Replaces the node of a page that is still at the token's stamp, and returns the new token. Otherwise it returns the current token and the node
+    /// as the inner error, or `None` if the page is absent or free.
     #[tactic(auto, using(crate::proofs::Replays::serves_tells))]
     pub fn replace<R: Wait>(
         &self,
@@ -149,7 +154,8 @@ impl<L: Log, K: Tally> SharedPageCache<L, K> {
         self.held.lock(rt).replace(pid, old, node, mine)
     }
 
-    /// Frees a page that is still at that stamp. Otherwise the page's token comes back.
+    /// Frees a page that is still at the token's stamp, and returns the new token. Otherwise it returns the current token as the inner error, or
+    /// `None` if the page is absent or free.
     #[tactic(auto, using(crate::proofs::Replays::serves_tells))]
     pub fn free<R: Wait>(
         &self,
@@ -164,7 +170,7 @@ impl<L: Log, K: Tally> SharedPageCache<L, K> {
         self.held.lock(rt).free(pid, old, mine)
     }
 
-    /// The next id.
+    /// Returns the next id.
     #[tactic(auto, using(crate::proofs::Replays::serves_tells))]
     pub fn generate_id<R: Wait>(&self, rt: &R, mine: &mut Share<K>) -> Result<u64, Error>
         ensures told { Tells mine.old (Asked GenerateId) (Answered (Generated result)) mine.new }
@@ -172,7 +178,7 @@ impl<L: Log, K: Tally> SharedPageCache<L, K> {
         self.held.lock(rt).generate_id(mine)
     }
 
-    /// Makes all that is pending stable, and answers how many bytes that wrote.
+    /// Makes all that is pending durable, and returns the number of bytes written.
     #[tactic(auto, using(crate::proofs::Replays::serves_tells))]
     pub fn flush<R: Wait>(&self, rt: &R, mine: &mut Share<K>) -> Result<usize, Error>
         ensures told { Tells mine.old (Asked Flush) (Answered (Flushed result)) mine.new }
@@ -180,7 +186,8 @@ impl<L: Log, K: Tally> SharedPageCache<L, K> {
         self.held.lock(rt).flush(mine)
     }
 
-    /// Gives a name another root, or takes the name out, if its root is still the old one. Otherwise the root comes back.
+    /// Gives a name the root `new`, or removes the name if `new` is `None`, if its root is still `old`. Otherwise it returns the current root as the
+    /// inner error.
     #[tactic(auto, using(crate::proofs::Replays::serves_tells))]
     pub fn cas_root_in_meta<R: Wait>(
         &self,
@@ -195,7 +202,7 @@ impl<L: Log, K: Tally> SharedPageCache<L, K> {
         self.held.lock(rt).cas_root_in_meta(name, old, new, mine)
     }
 
-    /// The root page of a name. `CollectionNotFound`, with the name, comes where it has none.
+    /// Returns the root page of a name, or the error `CollectionNotFound`, with the name, if it has none.
     #[tactic(auto, using(crate::proofs::Replays::serves_tells))]
     pub fn meta_pid_for_name<R: Wait>(
         &self,
@@ -208,7 +215,7 @@ impl<L: Log, K: Tally> SharedPageCache<L, K> {
         self.held.lock(rt).meta_pid_for_name(name, mine)
     }
 
-    /// The root page of the tree of this name. A name that has no root is given one.
+    /// Returns the root page of the tree of this name, and makes a tree if the name has no root.
     #[tactic(auto, using(crate::proofs::Replays::serves_tells))]
     pub fn open_tree<R: Wait>(
         &self,
@@ -221,8 +228,10 @@ impl<L: Log, K: Tally> SharedPageCache<L, K> {
         self.held.lock(rt).open_tree(name, mine)
     }
 
-    /// Makes swaps in a batch: a crash leaves all of them or nothing. A stale swap is answered, and is no hindrance. Where one is refused
-    /// the batch is cancelled, and the refusal comes with the answers before it, of which a crash may leave a part.
+    /// Makes swaps in a batch: a crash leaves all of them or nothing. A stale swap has its answer, and doesn't stop the batch.
+    ///
+    /// If a swap is refused, the batch is cancelled. The error is returned with the answers before it, and a crash may leave a part of these swaps.
+    /// If the batch can't be opened or sealed, that error is returned, with no answers or with all of them.
     #[tactic(auto, using(crate::proofs::Replays::serves_tells))]
     pub fn batch<R: Wait>(
         &self,
@@ -235,8 +244,8 @@ impl<L: Log, K: Tally> SharedPageCache<L, K> {
         self.held.lock(rt).batch(swaps, mine)
     }
 
-    /// Ends a round, and answers its book. The next one begins with the shape in which this one closed. A kept write error is no hindrance, and
-    /// `OutOfMemory` changes nothing. It may wait.
+    /// Ends a round, and returns its book. The next round begins with the cache's shape at the end of this one. It works after a write error too.
+    /// `OutOfMemory` changes nothing. It may block on the lock.
     pub fn take_book<R: Wait>(&self, rt: &R) -> Result<Book, Error>
         ensures legal { K.known → L.tells → IfOk result IsLegal }
         ensures err { IfErr result (λ e. e ≡ OutOfMemory) }
@@ -244,8 +253,8 @@ impl<L: Log, K: Tally> SharedPageCache<L, K> {
         self.held.lock(rt).take_book()
     }
 
-    /// Ends the last round, once all shares are back: the cache, the last book, and how many calls were entered in all. Where a share is
-    /// missing all comes back.
+    /// Ends the last round, if all shares are passed in. It returns the cache, the last book, and the number of calls that were entered in all. If a
+    /// share is missing, it returns the shared cache and the shares as the error.
     pub fn close(
         self,
         shares: Vec<Share<K>>,

@@ -1,6 +1,6 @@
-//! The value under the lock: the cache, with the book of its calls.
+//! The value under the lock: the cache with the book of its calls.
 
-ghost use Rattle.std.specs.Prelude.{◌≡◌, ◌+◌, ◌-◌, ◌<◌, true, false, length, IfOk, IfErr, IfSome, IfNone, IsOk, ◌↔◌, All, sum_by};
+ghost use Rattle.std.specs.Prelude.{◌≡◌, ◌+◌, ◌-◌, ◌<◌, false, length, IfOk, IfErr, IfSome, IfNone, IsOk, ◌↔◌, All, sum_by};
 ghost use Rattle.sled_shared.specs.History.{HasAll};
 ghost use Rattle.sled_shared.specs.Held.{count_of};
 ghost use Rattle.sled_base.specs.declared.types.Error.TheVariants.{OutOfMemory};
@@ -22,10 +22,10 @@ use std::marker::Model;
 use std::mem;
 use std::sync::ledger;
 
-/// A page cache with the book of its calls. The book's calls were made one after another, of a cache that had the opening shape, and left
+/// A page cache with the book of its calls. The book's calls were made one after another, on a cache that had the opening shape, and they left
 /// the cache as it is.
 ///
-/// Contracts see the cache, the book, the most entries that it may have, and how many shares were given out and are left.
+/// In contracts, the value is the cache, the book, the most entries that the book may have, and how many shares were given out and are left.
 #[derive(Drop)]
 pub struct Held<L: Log, K: Tally> {
     alloc: Global,
@@ -57,10 +57,10 @@ impl<L: Log, K: Tally> Held<L, K> {
     ghost use Rattle.sled_shared.specs.Book.{RisesWithin, ids_of};
     ghost use Rattle.sled_shared.specs.Held.{AreOfBook, EndsBefore, IsBookOf, IsNewRound, ReplaysIn, calls_of, held};
 
-    /// Opens the first round over a cache, of which no batch is open. A book has at most `limit` entries. The ledger's parts are the shares
-    /// that there will be, and one more.
+    /// Opens the first round over a cache that has no open batch. A book has at most `limit` entries. The ledger has one part for each share that
+    /// there can be, and one more.
     ///
-    /// `blank` is the ledger's, of so many `parts`. `OutOfMemory` hands the cache back.
+    /// `blank` is that of the ledger, with the same number of `parts`. `OutOfMemory` returns the cache.
     pub fn over(
         alloc: Global,
         cache: PageCache<L>,
@@ -97,14 +97,14 @@ impl<L: Log, K: Tally> Held<L, K> {
         })
     }
 
-    /// Whether both system pages were found in the log.
+    /// Returns whether both system pages were found in the log when the cache was opened.
     pub fn was_recovered(&self) -> bool
         ensures { result ≡ self.now.cache.recovered }
     {
         self.cache.was_recovered()
     }
 
-    /// A share for one thread more, or none where all were given out: one part stays here.
+    /// Returns a share for one more thread, or `None` if all were given out: one part stays here.
     pub fn share(&mut self) -> Option<Share<K>>
         ensures some { IfSome result (λ s. (count_of s ≡ 0) × (1 < self.old.left) × (self.new ≡ held
             self.old.cache self.old.book self.old.limit (self.old.given + 1) (self.old.left - 1))) }
@@ -124,8 +124,8 @@ impl<L: Log, K: Tally> Held<L, K> {
         })
     }
 
-    /// Ends a round, and answers its book. The next one begins with the shape in which this one closed, which alone takes memory. A kept write
-    /// error is no hindrance, and `OutOfMemory` changes nothing.
+    /// Ends a round, and returns its book. The next round begins with the cache's shape at the end of this one, and only that shape takes memory. It
+    /// works after a write error too. `OutOfMemory` changes nothing.
     pub fn take_book(&mut self) -> Result<Book, Error>
         ensures book { IfOk result (λ b. (b ≡ self.old.book)
             × IsNewRound L.Log (calls_of self.old.book) self.old.cache self.new.book × (self.new
@@ -145,8 +145,8 @@ impl<L: Log, K: Tally> Held<L, K> {
         Ok(Book::new(earlier, opening, entries))
     }
 
-    /// Ends the last round, once all shares are back: the cache, the last book, and how many calls were entered in all. Where a share is
-    /// missing all comes back.
+    /// Ends the last round, if all shares are passed in. It returns the cache, the last book, and the number of calls that were entered in all. If a
+    /// share is missing, it returns the held cache and the shares as the error.
     pub fn close(
         self,
         shares: Vec<Share<K>>,

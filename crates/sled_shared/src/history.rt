@@ -1,4 +1,4 @@
-//! A history of entries that exists in the proofs alone. Its tokens take no bytes, and their functions do nothing at run time.
+//! A history of entries that exists only in the proofs. Its tokens take no bytes, and their functions do nothing at run time.
 
 ghost use Rattle.std.specs.Prelude.{◌≡◌, ℕ, List, [], ◌∷◌, ◌++◌};
 ghost use base.Stored.{coded_list};
@@ -6,7 +6,7 @@ ghost use Rattle.sled_shared.specs.History.{HasAll, Writes, line_coded, written_
 
 use std::marker::{Model, PhantomData, Send};
 
-/// The history. Whoever has it can write.
+/// The history. Its owner can write to it.
 pub struct History<E> {
     marker: PhantomData<E>,
     pub ghost name: { ℕ },
@@ -30,7 +30,7 @@ impl<E> Model for Pen<E> {
 }
 
 impl<E> History<E> {
-    /// A history with no entry.
+    /// Makes a history with no entry.
     pub fn new() -> History<E>
         ensures { result.log ≡ [] }
     {
@@ -39,7 +39,7 @@ impl<E> History<E> {
         }
     }
 
-    /// A pen more, which has written nothing.
+    /// Makes one more pen, which has written nothing and has seen all entries so far.
     pub fn pen(&mut self) -> Pen<E>
         ensures { (self.new ≡ self.old) × (result.of ≡ self.old.name) × (result.seen ≡ self.old.log) × (written_by result.number self.old.log ≡ []) }
     {
@@ -48,13 +48,13 @@ impl<E> History<E> {
         }
     }
 
-    /// Writes an entry.
+    /// Writes an entry. The pen has seen the whole history then.
     pub fn enter(&mut self, pen: &mut Pen<E>, entry: &E)
         requires { pen.old.of ≡ self.old.name }
         ensures { (self.new.name ≡ self.old.name) × (pen.new.of ≡ pen.old.of) × (pen.new.number ≡ pen.old.number) × (self.new.log ≡ self.old.log ++ (pen.old.number, entry.now) ∷ []) × (pen.new.seen ≡ self.new.log) × Writes pen.old.number pen.old.seen entry.now pen.new.seen }
     {}
 
-    /// Changes nothing, and tells that the pen has seen all its entries.
+    /// Changes nothing, and shows that the pen has seen a prefix of the history, with all entries that it wrote.
     pub fn audit(&mut self, pen: &mut Pen<E>)
         requires { pen.old.of ≡ self.old.name }
         ensures { (self.new ≡ self.old) × (pen.new ≡ pen.old) × HasAll pen.old.number pen.old.seen self.old.log }

@@ -1,4 +1,4 @@
-//! What an entry keeps of an answer. The room of a refusal is taken before the call, and used where there is one.
+//! What an entry stores of an answer. The room for a refusal is allocated before the call, and is used if there is one.
 
 ghost use Rattle.std.specs.Prelude.{◌≡◌, List, ℕ, Ok, IfOk, IfErr, IsSome};
 ghost use Rattle.sled_base.specs.Errors.{error_of};
@@ -11,7 +11,7 @@ use crate::entry::{Ending, Kept};
 use sled_base::{Error, PageId, Refusal};
 use sled_pagecache::PageView;
 
-/// The room of a refusal, or none where it was used.
+/// The room for a refusal, or `None` if it was used.
 pub(crate) type Spare = Option<Box<Refusal>>;
 
 // The answer of a call, which owns nothing.

@@ -1,4 +1,4 @@
-//! What holds of the books of one opening.
+//! Laws of the books of one opening.
 
 ghost use Rattle.std.specs.Prelude.{ℕ, ◌<◌, [], ◌∷◌, List, AllPairs, flat_map};
 ghost use Rattle.sled_pagecache.specs.Cache.{Cache};
@@ -8,19 +8,20 @@ ghost use Rattle.sled_shared.specs.Held.{EndsBefore, IsBookOf, ReplaysIn};
 use crate::share::Tally;
 use sled_log::Log;
 
-/// The book of a cache of which the state was known as it opened replays, and the replay ends in a state in which the cache is.
+/// The book of a cache replays, if the state of the cache was known when the book was opened and `tells` holds for its log. The replay ends in a
+/// state that the cache has.
 pub fn a_book_replays<L: Log, K: Tally>()
     ensures { (b : Book) (cache : Cache L) → IsBookOf L.Log K.known b cache → K.known → L.tells
         → ReplaysIn L.Log b cache }
 {}
 
-/// No id is answered twice: in the books of one opening each id is below all later ones, whichever threads drew them.
+/// No id is returned twice: in the books of one opening each id is below all later ones, whichever threads drew them.
 pub fn ids_never_repeat()
     ensures { (interval : ℕ) (books : List Book) → AreRounds interval books
         → AllPairs (λ a b. a < b) (flat_map ids_of books) }
 {}
 
-/// The books that are taken of a held cache one after another, and the last one, are those of one opening.
+/// The books that are taken from a held cache one after another, and the last one, are the books of one opening.
 pub fn books_are_rounds<L: Log>()
     ensures last { (b : Book) (cache : Cache L) → ReplaysIn L.Log b cache
         → AreRounds cache.config.idgen_persist_interval (b ∷ []) }

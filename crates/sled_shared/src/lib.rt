@@ -2,14 +2,14 @@
 //!
 //! In reading order:
 //!
-//! - `calls`, `entry`, `book`: the swaps of a batch, what is entered of a call, and the book of a round
-//! - `history`: a history of entries that exists in the proofs alone
-//! - `share`: the shares of the threads, by which entered calls are counted and told
+//! - `calls`, `entry`, `book`: the swaps of a batch, what is entered for a call, and the book of a round
+//! - `history`: a history of entries that exists only in the proofs
+//! - `share`: the shares of the threads, which count the entered calls
 //! - `held`: the cache with its book, and its calls
-//! - `handle`: the held cache under the one lock
+//! - `handle`: the held cache under one lock
 //! - `crew`: threads that draw ids
-//! - `law`: what holds of the books of one opening
-//! - `keeping`, `copies`, `batch`: what is kept of an answer, copies of a node, and the making of a batch
+//! - `law`: laws of the books of one opening
+//! - `keeping`, `copies`, `batch`: what an entry stores of an answer, copies of arguments and nodes, and making a batch
 #![tactic(auto)]
 
 mod batch;

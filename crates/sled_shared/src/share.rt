@@ -1,4 +1,4 @@
-//! The shares of the threads, by which entered calls are counted, and told in one history.
+//! The shares of the threads, which count the entered calls. One history has these calls with their answers.
 
 ghost use Rattle.std.specs.Prelude.{◌≡◌, ℕ, ⊤, []};
 
@@ -10,7 +10,7 @@ use std::sync::ledger::Ledger;
 
 /// The ledger and the history of one shared cache. Callers pass `Brand`.
 pub trait Tally: Ledger {
-    /// That the caller knows in which state the cache is that is shared. Whoever doesn't may say so, and is told less of the books.
+    /// That the caller knows the state of the cache that it shares. A caller that doesn't know it may say so, and less is promised of its books.
     ghost known: { Type 0 };
 
     /// The name of the history.
@@ -23,7 +23,7 @@ impl Tally for Brand {
     ghost history = { 0 };
 }
 
-/// A new ledger and a new history, which no cache has yet. They take no bytes.
+/// A new ledger and a new history, which no cache uses yet. They take no bytes.
 #[derive(Drop)]
 pub struct Blank {
     pub(crate) ledger: ledger::Blank,
@@ -42,7 +42,7 @@ impl Model for Blank {
 }
 
 impl Blank {
-    /// For a cache whose ledger has so many parts: the shares that there will be, and one more.
+    /// Makes a new ledger with this number of parts, and a new history. A cache needs one part for each share that there can be, and one more.
     pub fn new(parts: u64) -> Blank
         ensures { result.parts ≡ parts }
     {
@@ -53,8 +53,9 @@ impl Blank {
     }
 }
 
-/// The right of one thread to make calls. Contracts see its number, and what it has seen of the history of all calls: those that it made are
-/// its own there.
+/// The right of one thread to make calls.
+///
+/// In contracts, the value of a share is its number, and what it has seen of the history of all calls. The calls that it made have its number there.
 #[derive(Drop)]
 pub struct Share<K: Tally> {
     pub(crate) mark: ledger::Share<K>,
@@ -77,7 +78,7 @@ impl<K: Tally> Model for Share<K> {
 impl<K: Tally> Share<K> {
     ghost use Rattle.sled_shared.specs.Held.{count_of};
 
-    /// The number of its calls that were entered.
+    /// Returns the number of its calls that were entered.
     pub fn count(&self) -> u64
         ensures { result ≡ count_of self.now }
     {

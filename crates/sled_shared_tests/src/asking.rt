@@ -1,8 +1,6 @@
 //! Calls of a shared cache, each with what was asked and what it answered as a text. A swap that hands its change back is written with what
 //! came back in place of what was asked, so a text stands in the book only if that is the same.
 
-ghost use Rattle.std.specs.Prelude.{◌≡◌};
-
 use sled_pagecache::{Error, IVec, Link, MemLog, Node, PageId, PageView};
 use sled_shared::{Ending, Share, SharedPageCache, Swap, SwapAnswer, Tally};
 use std::alloc::{AllocError, Global};

@@ -10,7 +10,7 @@
 //! - `refused`: one list of calls, with each request for memory refused in turn
 //! - `rows`: books that are filled, taken and closed, and a batch that is cancelled
 //! - `tokens`: tokens that no call gave, and ids of every size
-//! - `readme`: the README's example
+//! - `readme`: an example of docs/GUIDE.md
 //!
 //! They are compiled with the tests alone, so that each is proved once.
 #![tactic(auto)]

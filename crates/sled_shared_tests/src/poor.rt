@@ -1,6 +1,6 @@
 //! A shared cache over a log that has room for one message, and of which a page is damaged.
 
-ghost use Rattle.std.specs.Prelude.{⊤, ◌≡◌, ◌<◌, ℕ, [], pos, false, true, None, IfOk};
+ghost use Rattle.std.specs.Prelude.{⊤, ◌≡◌, ◌<◌, [], pos, false, true, None, IfOk};
 ghost use Rattle.sled_log.specs.Inside.Marks.{marks};
 
 use crate::entered::texts_of;

@@ -9,7 +9,7 @@ use Rattle.sled_log.specs.Events.{Event}
 use Rattle.sled_log.specs.declared.log.Log.{Ghosts}
 use Rattle.sled_node.specs.Meta as meta
 use Rattle.sled_pagecache.specs.Cache.{Cache}
-use Rattle.sled_pagecache.specs.State.{State, contents_of}
+use Rattle.sled_pagecache.specs.State.{State}
 use Rattle.sled_search.specs.Map.{Map}
 use Rattle.sled_search.specs.Search.{IsTreeOf}
 use Rattle.sled_tree.specs.ByName.{IsOfMap, OpensThen, SwapsNone, map_at, map_of, pairs_in}

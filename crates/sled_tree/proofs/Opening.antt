@@ -1,5 +1,5 @@
 -- Opening a map by its name.
-use Rattle.std.proofs.Common.{◌≡◌, ◌≢◌, ◌⊎◌, ◌∙◌, inl, inr, ℕ, Bool, true, false, cond, List, [], ◌∷◌, ◌++◌, Option, Some, None, Result, Ok, Err, slice_get, slice_set, refl, sym, ap, subst, ◌^◌, ◌-◌, ◌+◌}
+use Rattle.std.proofs.Common.{◌≡◌, ◌≢◌, ◌⊎◌, ◌∙◌, inl, inr, ℕ, true, false, cond, List, [], ◌∷◌, ◌++◌, Option, Some, None, Result, Ok, Err, slice_get, slice_set, refl, sym, ap, subst, ◌^◌, ◌-◌, ◌+◌}
 use Rattle.std.specs.Prelude.{◌==◌, IsErr, ⊤}
 use Rattle.std.proofs.lemmas.Bool.{false≢true}
 use Rattle.sled_base.specs.Order.{Bytes}

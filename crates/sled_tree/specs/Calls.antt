@@ -1,4 +1,4 @@
--- The calls of maps by name, each with its answer: what it needs of the names and maps, and what it makes of them.
+-- The calls on maps, each with its result: what it needs of the names and maps, and what it makes of them.
 use Rattle.std.specs.Prelude.{◌≡◌, ◌≢◌, ◌⊎◌, ◌↔◌, ℕ, Bool, true, IsTrue, List, [], length, Option, Some, None, Result, Ok, Err, IfOk, ⊤}
 use Rattle.std.specs.Option.{is_some}
 use Rattle.std.specs.declared.ops.Bound.{Bound}
@@ -24,7 +24,7 @@ use Rattle.sled_tree.specs.Performs.{Performs}
 use Rattle.sled_tree.specs.declared.error.TreeError.{TreeError}
 use Rattle.sled_tree.specs.declared.trees.Tree.{Tree}
 
--- a call, what it was given, and what it answered
+-- a call with its arguments and its result
 pub data MapCall : Type 0 where
   Opened : (name : Bytes) (result : Result Tree TreeError) → MapCall
   Got : (root : ℕ) (key : Bytes) (result : Result (Option Bytes) TreeError) → MapCall
@@ -45,7 +45,7 @@ pub data MapCall : Type 0 where
   Sealed : (result : Result (Unit {0}) TreeError) → MapCall
   Cancelled : (result : Result (Unit {0}) TreeError) → MapCall
 
--- A call of a map needs that its root has one.
+-- A call on a map needs a map at its root.
 abbrev pub Needs : MapCall → Named → Type 0
 Needs (Got root key result) w = HasTree w.maps root
 Needs (Contained root key result) w = HasTree w.maps root
@@ -61,19 +61,19 @@ Needs (Removed root key result) w = HasTree w.maps root
 Needs (Swapped root key before after result) w = HasTree w.maps root
 Needs call w = ⊤
 
--- the root has a map, of which that is so
+-- the root has a map, which meets the condition
 abbrev pub HasMap : Named → ℕ → (Map → Type 0) → Type 0
 HasMap w root Is = (m : Map) × (w.maps root ≡ Some m) × Is m
 
--- All stays, and what is answered is so of the map at the root.
+-- Everything stays as it is, and the map at the root and the answer meet the condition.
 abbrev pub Answers : {T : Type 0} → Named → Named → ℕ → Result T TreeError → (Map → T → Type 0) → Type 0
 Answers old new root result Is = (new ≡ old) × IfOk result (λ answer. HasMap old root (λ m. Is m answer))
 
--- What an error leaves: all stays; but where a write failed it may have turned.
+-- What an error leaves: everything as it was; or, if a write failed, the names and maps may be the new ones.
 abbrev pub StaysUnless : Bool → Named → Named → Named → Type 0
 StaysUnless fault old others new = (new ≡ old) ⊎ ((fault ≡ true) × (new ≡ others))
 
--- What a call makes of the old names and maps, where no write has failed by its end, and where one has.
+-- What a call makes of the old names and maps. `fault` is whether a write has failed by its end.
 abbrev pub Does : MapCall → Bool → Named → Named → Type 0
 Does (Opened name (Ok tree)) fault old new =
     ((meta.root_of name old.names ≡ Some (root_of tree)) × (new ≡ old)) ⊎ (IsFree name (root_of tree) old × (new ≡ with_new name (root_of tree) old))
@@ -101,19 +101,19 @@ Does (Pinned result) fault old new = new ≡ old
 Does (Sealed result) fault old new = new ≡ old
 Does (Cancelled result) fault old new = new ≡ old
 
--- A call changes no value of the key in the map at that root.
+-- The call doesn't change the value of the key in the map at this root.
 abbrev pub LeavesKey : ℕ → Bytes → MapCall → Type 0
 LeavesKey root key (Inserted other k value result) = other ≡ root → k ≢ key
 LeavesKey root key (Removed other k result) = other ≡ root → k ≢ key
 LeavesKey root key (Swapped other k before after result) = other ≡ root → k ≢ key
 LeavesKey root key what = ⊤
 
--- However an opening ends; but if a crash comes inside a call, that call has what it needs of these names and maps, and leaves the key.
+-- An opening may end in any way. But if a crash comes inside a call, that call has what it needs of these names and maps, and leaves the key.
 abbrev pub EndsBeside : Named → ℕ → Bytes → Ending MapCall → Type 0
 EndsBeside w root key (CrashedIn deed) = Needs deed.what w × LeavesKey root key deed.what
 EndsBeside w root key ending = ⊤
 
--- However an opening ends; but if a crash comes inside a call, that call has what it needs of these names and maps.
+-- An opening may end in any way. But if a crash comes inside a call, that call has what it needs of these names and maps.
 abbrev pub EndsInNeed : Named → Ending MapCall → Type 0
 EndsInNeed w (CrashedIn deed) = Needs deed.what w
 EndsInNeed w ending = ⊤
@@ -123,6 +123,6 @@ abbrev pub deed : MapCall → List (Call × Answer) → Deed MapCall
 deed what calls = record { what = what; calls = calls }
 
 module _ {L : Type 0} (g : Ghosts L) where
-  -- Where that is so of a call, by its contract, it is this deed, by the very calls of the cache of which the contract is said.
+  -- If a call does what its contract says, then this deed is done, by the same calls of the cache that the contract is about.
   abbrev pub IsWordOf : (State → List (Event Update) → State → Type 0) → MapCall → Type 0
   IsWordOf Is what = (old new : Cache L) (performs : Performs g Is old new) → IsDone g Needs Does old (deed what performs.calls) new

@@ -26,21 +26,21 @@ use Rattle.sled_tree.specs.declared.trees.Tree.{Tree}
 abbrev pub names_of : meta.Roots → List Bytes
 names_of roots = map (λ root. root.0) roots
 
--- whichever names the maps have: these, in their order
+-- the answer is the names that the maps have, in their order
 abbrev pub AreNamesOf : List Content → Vec Bytes → Type 0
 AreNamesOf pages answer = (w : Named) → AreNamed pages w → answer.items ≡ names_of w.names
 
--- and the name has that root
+-- the name has this root, or none
 abbrev pub IsRootOf : Bytes → List Content → Option ℕ → Type 0
 IsRootOf name pages root = (w : Named) → AreNamed pages w → root ≡ meta.root_of name w.names
 
--- and the map is that of the name: the one with its root, or none where it has none
+-- this is the map of the name: the one with its root, or none if it has no root
 abbrev pub IsMapOf : Bytes → List Content → Option Tree → Type 0
 IsMapOf name pages tree = IsRootOf name pages (option_map root_of tree)
 
 -- ---- dropping
 
--- without the name, and without the map at its root
+-- the names and maps without this name, and without the map at its root
 abbrev pub without : Bytes → ℕ → Named → Named
 without name root w = record { names = meta.without_root name w.names; maps = without_map root w.maps }
 
@@ -48,19 +48,19 @@ without name root w = record { names = meta.without_root name w.names; maps = wi
 abbrev pub HasMap : Bytes → Named → Type 0
 HasMap name w = (root : ℕ) → meta.root_of name w.names ≡ Some root → HasTree w.maps root
 
--- What dropping the map of a name answers: whether there was one, which is gone then with its name, and the others stay. At an error all
--- stays; but where a write failed, what was written may be what drops the map.
+-- What dropping the map of a name returns: whether there was one. Then the map and its name are gone, and the others stay. After an error
+-- everything stays; but if a write failed, the drop may have been written.
 abbrev pub Drops : {E : Type 0} → Bytes → Result Bool E → State → List (Event Update) → State → Named → Type 0
 Drops name (Ok true) s events t w = (root : ℕ) × (meta.root_of name w.names ≡ Some root) × Turns s w events (without name root w) t
 Drops name (Ok false) s events t w = (meta.root_of name w.names ≡ None) × Stays s w events t
 Drops name (Err e) s events t w = Stays s w events t ⊎ ((root : ℕ) × (meta.root_of name w.names ≡ Some root) × StaysUnlessFaulty s w events (without name root w) t)
 
--- Whichever maps and names there are, with a map of this name if it has a root: the call does that with them.
+-- For all maps and names of the pages, in which this name has a map if it has a root: the call drops that map.
 pub record DropsMap {E : Type 0} (name : Bytes) (result : Result Bool E) (s : State) (events : List (Event Update)) (t : State) : Type 0 where
   pub follows : Follows s events t
   pub does : (w : Named) → AreNamed (contents_of s) w → HasMap name w → Drops name result s events t w
 
--- The name, which has this root, is taken out; or the call is refused.
+-- The call removes the name, which has this root; or it is refused.
 pub record Unnames {T E : Type 0} (name : Bytes) (root : ℕ) (result : Result T E) (s : State) (events : List (Event Update)) (t : State) : Type 0 where
   pub follows : Follows s events t
   pub ends : (roots : meta.Roots) → slice_get (contents_of s) meta_pid ≡ Some (Roots roots) → meta.root_of name roots ≡ Some root
@@ -68,26 +68,26 @@ pub record Unnames {T E : Type 0} (name : Bytes) (root : ℕ) (result : Result T
 
 -- ---- its pages
 
--- searches from the root are at each of these
+-- searches from the root reach each of these pages
 abbrev pub AreReached : ℕ → List Token → List Content → Type 0
 AreReached root found pages = All (λ token. Reaches pages root token.pid) found
 
--- the key is led to the page where the search goes on
+-- the node leads the key to the page where the search continues
 abbrev pub LeadsOn : Bytes → WholeNode → Way → Type 0
 LeadsOn key n (On page) = LeadsTo n key page
 LeadsOn key n (End end) = ⊤
 
--- what a page says to a search that gathers pages
+-- what a search that collects pages finds at a page
 pub record IsStopAt (pages : List Content) (key : Bytes) (pid : ℕ) (stop : Stop) : Type 0 where
   pub token : stop.token.pid ≡ pid
   pub way : HasNodeAt pages pid (λ n. LeadsOn key n stop.way)
 
--- the page is free; or the call is refused
+-- the call frees the page; or it is refused
 pub record Frees (page : Token) (s : State) (events : List (Event Update)) (t : State) : Type 0 where
   pub stuck : s.fault ≡ true → (events ≡ []) × (t ≡ s)
   pub answer : Swapped (Unit {0})
   pub ends : EndsSwap answer s (slice_set (contents_of s) page.pid Free) events t
 
--- no search is at any of these, and none has the names
+-- no search reaches any of these pages, and none of them is the page of the names
 abbrev pub AreLoose : List Token → List Content → Named → Type 0
 AreLoose tokens pages w = All (λ token. (token.pid ≢ meta_pid) × IsOff pages w.maps token.pid) tokens

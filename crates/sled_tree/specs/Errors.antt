@@ -1,4 +1,4 @@
--- Which error a call of a map may answer.
+-- Which errors a call on a map may return.
 use Rattle.std.specs.Prelude.{◌<◌, length, ⊤}
 use Rattle.sled_base.specs.Order.{Bytes}
 use Rattle.sled_node.specs.Limits.{bytes_limit}
@@ -8,17 +8,17 @@ use Rattle.sled_tree.specs.declared.error.TreeError.TheVariants.{Cache, KeyTooLo
 abbrev pub IsTooLong : Bytes → Type 0
 IsTooLong bytes = bytes_limit < length bytes
 
--- one of the cache, and no other
+-- an error of the cache, and no other
 abbrev pub IsOfCache : TreeError → Type 0
 IsOfCache (Cache error) = ⊤
 IsOfCache other = ⊥
 
--- one of the cache, or that the key is too long, where it is
+-- an error of the cache, or `KeyTooLong` if the key is too long
 abbrev pub IsOfKey : Bytes → TreeError → Type 0
 IsOfKey key KeyTooLong = IsTooLong key
 IsOfKey key other = IsOfCache other
 
--- or the value
+-- one of these, or `ValueTooLong` if the value is too long
 abbrev pub IsOfPair : Bytes → Bytes → TreeError → Type 0
 IsOfPair key value ValueTooLong = IsTooLong value
 IsOfPair key value other = IsOfKey key other

@@ -1,6 +1,6 @@
--- How many pairs a leaf may have, and how many children an index.
+-- The most pairs of a leaf, and the most children of an index.
 use Rattle.std.specs.Prelude.{ℕ, max, min}
 
--- a number from 4 to 65,536: this one, or the nearest
+-- the nearest number from 4 to 65,536: the number itself if it is in this range
 abbrev pub nearest : ℕ → ℕ
 nearest number = max 4 (min number 65536)

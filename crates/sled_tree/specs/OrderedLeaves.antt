@@ -1,4 +1,4 @@
--- What a leaf tells of the pairs next to a bound, of those within two, and of how many there are.
+-- What a leaf shows of the pairs next to a bound, of those within two bounds, and of the number of pairs.
 use Rattle.std.specs.Prelude.{◌≡◌, ◌≢◌, ◌⊎◌, ℕ, ◌+◌, List, [], ◌∷◌, ◌++◌, length, Option, Some, None}
 use Rattle.std.specs.declared.ops.Bound.{Bound}
 use Rattle.std.specs.declared.ops.Bound.TheVariants.{Included, Excluded}
@@ -15,25 +15,25 @@ use Rattle.sled_tree.specs.declared.neighbours.Near.TheVariants.{Pair, Further, 
 use Rattle.sled_tree.specs.declared.neighbours.count.Part.{Part}
 use Rattle.sled_tree.specs.declared.neighbours.pieces.LeafPart.{LeafPart}
 
--- the search for the keys right before a bound comes to that leaf
+-- the search for the keys just before a bound comes to this leaf
 abbrev pub ComesBefore : List Content → ℕ → Bound Bytes → ℕ → Type 0
 ComesBefore pages root bound leaf = (turns : ℕ) × GoesBefore pages bound turns root leaf × HasNodeAt pages leaf (IsLeafBefore bound)
 
 -- ---- the pair next to a bound
 
--- what a leaf has next behind a bound, or that it has none, and where it ends
+-- the first pair of a leaf after a bound; or the leaf has none, and ends here
 abbrev pub ShowsAbove : Bound Bytes → Near → WholeNode → Type 0
 ShowsAbove bound (Pair pair) n = IsWellFormed n × IsLeast (IsBehind bound) n pair
 ShowsAbove bound (Further end) n = HasNone (IsBehind bound) n × (n.hi ≡ end) × (end ≢ [])
 ShowsAbove bound Nothing n = HasNone (IsBehind bound) n × (n.hi ≡ [])
 
--- what a leaf has right before a bound, or that it has none, and where it begins
+-- the last pair of a leaf before a bound; or the leaf has none, and begins here
 abbrev pub ShowsBelow : Bound Bytes → Near → WholeNode → Type 0
 ShowsBelow bound (Pair pair) n = IsWellFormed n × IsGreatest (IsBefore bound) n pair
 ShowsBelow bound (Further start) n = HasNone (IsBefore bound) n × (n.lo ≡ start)
 ShowsBelow bound Nothing n = ⊥
 
--- the same of the map: the pair, or behind which other bound it is to be found
+-- the same for the map: the pair; or another bound, next to which the pair is
 abbrev pub IsNearAbove : Map → Bound Bytes → Near → Type 0
 IsNearAbove m bound (Pair pair) = IsNextAbove m bound (Some pair)
 IsNearAbove m bound (Further end) = (answer : Option (Bytes × Bytes)) → IsNextAbove m (Included end) answer → IsNextAbove m bound answer
@@ -44,7 +44,7 @@ IsNearBelow m bound (Pair pair) = IsNextBelow m bound (Some pair)
 IsNearBelow m bound (Further start) = (answer : Option (Bytes × Bytes)) → IsNextBelow m (Excluded start) answer → IsNextBelow m bound answer
 IsNearBelow m bound Nothing = IsNextBelow m bound None
 
--- the same of whichever map the tree is
+-- the same for whichever map the tree is
 abbrev pub SeesAbove : ℕ → Bound Bytes → List Content → Near → Type 0
 SeesAbove root bound pages near = (m : Map) → IsTreeOf pages root m → IsNearAbove m bound near
 
@@ -58,13 +58,13 @@ abbrev pub as_items : Map → List (Bytes × Item)
 as_items [] = []
 as_items (pair ∷ m) = (pair.0, Value pair.1) ∷ as_items m
 
--- what a leaf has within the bounds, and where it ends
+-- the pairs of a leaf within the bounds, and the end of the leaf
 pub record ShowsWithin (from to : Bound Bytes) (part : LeafPart) (n : WholeNode) : Type 0 where
   pub well_formed : IsWellFormed n
   pub pairs : as_items part.pairs.items ≡ within from to n.pairs
   pub end : n.hi ≡ part.end
 
--- the same of the map: those pairs come first within the bounds, and the others are from the end on, which is above the beginning
+-- the same for the map: these pairs come first within the bounds, and the others are from the end on, which is above the lower bound
 pub record IsPartOf (from to : Bound Bytes) (m : Map) (part : LeafPart) : Type 0 where
   pub ends : part.end ≡ [] → within from to m ≡ part.pairs.items
   pub goes_on : part.end ≢ [] → within from to m ≡ part.pairs.items ++ within (Included part.end) to m
@@ -73,15 +73,15 @@ pub record IsPartOf (from to : Bound Bytes) (m : Map) (part : LeafPart) : Type 0
 abbrev pub SeesPart : ℕ → Bound Bytes → Bound Bytes → List Content → LeafPart → Type 0
 SeesPart root from to pages part = (m : Map) → IsTreeOf pages root m → IsPartOf from to m part
 
--- ---- how many there are
+-- ---- the number of pairs
 
--- a leaf has so many pairs, and ends there
+-- a leaf has this number of pairs, and ends there
 pub record ShowsPart (part : Part) (n : WholeNode) : Type 0 where
   pub well_formed : IsWellFormed n
   pub pairs : length n.pairs ≡ part.pairs
   pub end : n.hi ≡ part.end
 
--- that is what the leaf of the key has
+-- the leaf of the key has this part
 abbrev pub HasPart : List Content → ℕ → Bytes → Part → Type 0
 HasPart pages root key part = (leaf : ℕ) × ComesToLeafOf pages key key leaf root × HasNodeAt pages leaf (ShowsPart part)
 
@@ -89,7 +89,7 @@ HasPart pages root key part = (leaf : ℕ) × ComesToLeafOf pages key key leaf r
 abbrev pub IsStart : List Content → ℕ → Bytes → Type 0
 IsStart pages root key = (key ≡ []) ⊎ ((other : Bytes) × (leaf : ℕ) × ComesToLeafOf pages other other leaf root × HasNodeAt pages leaf (λ n. n.hi ≡ key))
 
--- So many pairs of the map are below the key. The part is that of the leaf which begins there.
+-- The map has this number of pairs below the key. The part is that of the leaf of the key.
 pub record IsCounted (pages : List Content) (root count : ℕ) (part : Part) : Type 0 where
   pub key : Bytes
   pub start : IsStart pages root key

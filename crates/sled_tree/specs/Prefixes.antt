@@ -1,4 +1,4 @@
--- What every run of openings shows of its maps: those behind a prefix of the deeds, which holds all that was flushed.
+-- What every run of openings shows of its maps: those after a prefix of the deeds, which holds all that was flushed.
 use Rattle.std.specs.Prelude.{◌≡◌, ◌⊎◌, ◌≤◌, ℕ, Bool, true, false, List, [], ◌∷◌, ◌++◌, length, take, Ok, IfErr, if◌then◌else◌, ⊤}
 use Rattle.std.specs.List.{list_any}
 use Rattle.sled_log.specs.Contents.{Content, Update, contents_after}
@@ -24,13 +24,13 @@ use Rattle.sled_tree.specs.Performs.{Runs}
 abbrev pub nothing_named : Named
 nothing_named = record { names = []; maps = no_maps }
 
--- Which maps the pages are, where there may be no page yet.
+-- Which maps the pages are; there may be no page yet.
 abbrev pub AreSoFar : List Content → Named → Type 0
 AreSoFar [] w = w ≡ nothing_named
 AreSoFar (page ∷ pages) w = AreNamed (page ∷ pages) w
 
--- The pages as the last crash left them, and the maps that they were; what was done since, in order, by what each changed and the maps behind
--- it; and how many of these are flushed.
+-- The pages as the last crash left them, and the maps that they were. Then what was done since, in order: the changes of each deed, and the maps
+-- after it. Last, how many of these deeds are flushed.
 pub record History : Type 0 where
   pub pages : List Content
   pub named : Named
@@ -41,7 +41,7 @@ pub record History : Type 0 where
 abbrev pub history_from : List Content → Named → History
 history_from pages w = record { pages = pages; named = w; done = []; flushed = 0 }
 
--- the pages and the maps behind all of it
+-- the pages and the maps after all of it
 abbrev pub pages_by_now : History → List Content
 pages_by_now h = contents_after h.pages (changes_of h.done)
 
@@ -59,13 +59,13 @@ is_flush answer = false
 abbrev pub flushes : List (Call × Answer) → Bool
 flushes calls = list_any (λ made. is_flush made.1) calls
 
--- A deed was done. If it made a flush, all deeds before it are flushed.
+-- One more deed was done. If it made a flush, all deeds before it are flushed.
 abbrev pub history_after : {D : Type 0} → Deed D → List (Event Update) → Named → History → History
 history_after deed changes w h =
     record (with_done changes w h) { flushed = if flushes deed.calls then length h.done else h.flushed }
 
--- The pages are those behind a prefix of the changes, which splits no batch, and the maps are those behind a prefix of the deeds, which goes
--- as far and holds all that are flushed.
+-- The pages are those after a prefix of the changes, which splits no batch. The maps are those after a prefix of the deeds, which ends at the same
+-- place and holds all deeds that are flushed.
 pub record Survives (h : History) (pages : List Content) (w : Named) : Type 0 where
   pub cut : ℕ
   pub fair : IsFair (changes_of h.done) cut
@@ -78,36 +78,36 @@ pub record Survives (h : History) (pages : List Content) (w : Named) : Type 0 wh
 abbrev pub Crashes : History → History → Type 0
 Crashes h after = (pages : List Content) × (w : Named) × Survives h pages w × (after ≡ history_from pages w)
 
--- a change of a page, and no mark of a batch
+-- a change of a page, and not a mark of a batch
 abbrev pub IsNoMark : Event Update → Type 0
 IsNoMark (Change id update) = ⊤
 IsNoMark Pin = ⊥
 IsNoMark Seal = ⊥
 IsNoMark Cancel = ⊥
 
--- an opening makes the missing system pages, which leaves the maps
+-- an opening makes the missing system pages, which leaves the maps as they are
 abbrev pub begun_by_start : History → List (Event Update)
 begun_by_start h = changes_of_start (pages_by_now h)
 
 abbrev pub history_after_start : History → History
 history_after_start h = with_done (begun_by_start h) (named_by_now h) h
 
--- Where no cache was opened a prefix of the missing system pages was made, and then a crash came, or none.
+-- If no cache was opened, a prefix of the missing system pages was made, and then a crash came, or none.
 abbrev pub EndsUnopened : History → History → Type 0
 EndsUnopened h after =
     (part : List (Event Update)) × IsPrefix part (begun_by_start h)
     × (Crashes (with_done part (named_by_now h) h) after ⊎ (after ≡ with_done part (named_by_now h) h))
 
 module _ {D : Type 0} (Does : D → Bool → Named → Named → Type 0) where
-  -- What a deed makes of the maps, where the first says whether a write failed before it, and the other whether one has by its end: behind a
-  -- write that failed nothing is made.
+  -- What a deed makes of the maps. The first `Bool` is whether a write failed before it, the second whether one has failed by its end. After a write
+  -- that failed, nothing is changed.
   abbrev pub Makes : Bool → D → Bool → Named → Named → Type 0
   Makes true what fault old new = new ≡ old
   Makes false what fault old new = Does what fault old new
 
--- What is said of a deed, and of all that comes behind it, is so where the maps by then have what it needs.
+-- What is said of a deed, and of all that comes after it, holds if the maps at that time have what the deed needs.
 module _ {D : Type 0} (Needs : D → Named → Type 0) (Does : D → Bool → Named → Named → Type 0) where
-  -- How an opening ends, and what is so of the history from there. A deed inside which a crash came is one more, of which any part may be left.
+  -- How an opening ends, and what holds of the history from there. A deed in which a crash came is one more deed, of which any part may be left.
   abbrev pub ShowEnd : State → History → Ending D → (History → Type 0) → Type 0
   ShowEnd t h Crashed Then = (after : History) × Crashes h after × Then after
   ShowEnd t h (CrashedIn deed) Then =
@@ -119,8 +119,8 @@ module _ {D : Type 0} (Needs : D → Named → Type 0) (Does : D → Bool → Na
   ShowEnd t h Rewritten Then = (t.fault ≡ false) × Then (history_from (pages_by_now h) (named_by_now h))
 
 module _ {L D : Type 0} (g : Ghosts L) (Needs : D → Named → Type 0) (Does : D → Bool → Named → Named → Type 0) where
-  -- The deeds were done one after another: the calls of the cache are answered as the machine may from the state by then, and each deed makes
-  -- of the maps what it says. Then this is so of the history and the state.
+  -- The deeds were done one after another. The calls of the cache get answers that the machine may give from the state at that time, and each deed
+  -- makes of the maps what it says. Then this holds of the history and the state.
   abbrev pub ShowDeeds : History → State → List (Deed D) → (History → State → Type 0) → Type 0
   ShowDeeds h s [] Then = Then h s
   ShowDeeds h s (deed ∷ deeds) Then =
@@ -129,7 +129,7 @@ module _ {L D : Type 0} (g : Ghosts L) (Needs : D → Named → Type 0) (Does : 
       × (w : Named) × Makes Does s.fault deed.what t.fault (named_by_now h) w
       × ShowDeeds (history_after deed (row.changes_of outs) w h) t deeds Then
 
-  -- Each cache is what is opened of the pages by then, and has the maps by then; and its deeds are done from there.
+  -- Each cache is what opening makes of the pages at that time, and has the maps at that time. Its deeds are done from there.
   abbrev pub ShowMaps : History → List (Opening L D) → Type 0
   ShowMaps h [] = ⊤
   ShowMaps h (Refused config result left ∷ openings) =

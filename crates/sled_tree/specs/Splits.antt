@@ -14,7 +14,7 @@ use Rattle.sled_tree.specs.Changed.{Ends}
 use Rattle.sled_tree.specs.Named.{Named}
 use Rattle.sled_tree.specs.Walks.{IsReached}
 
--- the node's parts
+-- two nodes are the parts of a node
 pub record AreParts (n l r : WholeNode) : Type 0 where
   pub many : ℕ
   pub splits : SplitsBehind n many l r
@@ -26,19 +26,19 @@ pub record AreParts (n l r : WholeNode) : Type 0 where
 abbrev pub EndsSo : Bytes → ℕ → WholeNode → Type 0
 EndsSo at page n = (n.hi ≡ at) × (n.next ≡ Some page)
 
--- an index that led the key to the child is led from there on to the page
+-- an index that led the key to the child gets the page as the child from that key on
 pub record IsLed (n : WholeNode) (child : ℕ) (at : Bytes) (page : ℕ) (made : WholeNode) : Type 0 where
   pub index : n.is_index ≡ true
   pub ascending : IsAscending n.pairs
   pub leads : leading n.pairs at ≡ Some (Child child)
   pub is : made ≡ with_child at page n
 
--- the node is put on the page; or the call is refused
+-- the call puts the node on the page; or it is refused
 pub record Puts {T E : Type 0} (pid : ℕ) (node : WholeNode) (result : Result T E) (s : State) (events : List (Event Update)) (t : State) : Type 0 where
   pub stuck : s.fault ≡ true → (events ≡ []) × (t ≡ s)
   pub ends : Ends result s (slice_set (contents_of s) pid (Node node)) events t
 
--- the child ends at the key, and leads on to the page; and a search from one of the roots is at the node above
+-- the child ends at the key and leads on to the page, and a search from one of the roots reaches the node above
 pub record IsCut (above child : ℕ) (at : Bytes) (page : ℕ) (pages : List Content) (w : Named) : Type 0 where
   pub ends : HasNodeAt pages child (EndsSo at page)
   pub some : at ≢ []

@@ -1,4 +1,4 @@
-//! The calls of maps by name, and that each keeps the word that the law over openings asks of it.
+//! The calls on maps as data: each does what the law over openings asks of it.
 
 ghost use Rattle.std.specs.Prelude.{◌≡◌, ◌↔◌, ℕ, Bool, true, IsTrue, List, [], ◌∷◌, length, Option, Some, Result, Ok};
 ghost use Rattle.std.specs.Option.{is_some};
@@ -24,10 +24,10 @@ ghost use Rattle.sled_tree.specs.declared.trees.Tree.{Tree};
 
 use sled_log::Log;
 
-/// Each call keeps its word: where a call did what its contract says, that is the deed of its name, with what it was given and answered, by
-/// the very calls of the cache of which the contract is said.
+/// Each call keeps its word. If a call did what its contract says, it is the deed of its name, with the call's arguments and result, and it was
+/// done by the same calls of the cache that the contract is about.
 ///
-/// So a run of openings, of which `every_opening_shows_maps` speaks, is made of what the contracts of `Trees` promise.
+/// So the runs of openings in `every_opening_shows_maps` consist of what the contracts of `Trees` promise.
 pub fn each_call_keeps_its_word<L: Log>()
     ensures open { (name : Bytes) (result : Result Tree TreeError)
         → IsWordOf L.Log (OpensMap root_of name result) (Opened name result) }
@@ -82,8 +82,8 @@ pub fn each_call_keeps_its_word<L: Log>()
         → IsWordOf L.Log LeavesPages (Cancelled result) }
 {}
 
-/// A key that was set and then flushed in one opening is read back by the next, however that opening ends: by a crash, at any moment behind
-/// the flush or inside another call, if that one isn't for this key.
+/// A value that was set and then flushed in one opening is read back in the next one. The first opening may end in any way after the flush. If it
+/// ends by a crash inside another call, that call must not change this key of this map, and must be for a root that has a map.
 pub fn what_was_set_and_flushed_is_read_back<L: Log>()
     ensures { (h : History) (root : ℕ) (key value : Bytes) (before answer : Option Bytes)
         (written : ℕ) (set_calls flush_calls get_calls : List (Call × Answer))
@@ -100,7 +100,8 @@ pub fn what_was_set_and_flushed_is_read_back<L: Log>()
         → answer ≡ Some value }
 {}
 
-/// The map of a name that was opened and then flushed is the one that the next opening answers for the name, however that opening ends.
+/// A map that was opened by its name and then flushed is the one that the next opening returns for the name. The first opening may end in any way
+/// after the flush. If it ends by a crash inside another call, that call must be for a root that has a map, or need none.
 pub fn what_was_opened_and_flushed_is_opened_again<L: Log>()
     ensures { (h : History) (name : Bytes) (tree_then tree : Tree) (written : ℕ)
         (calls_then flush_calls calls : List (Call × Answer)) (config_then config : Config)

@@ -1,4 +1,4 @@
-//! Why a call of a map is refused.
+//! The errors of calls on maps.
 
 ghost use Rattle.std.specs.Prelude.{◌≡◌};
 ghost use Rattle.sled_base.specs.declared.types.Error.TheVariants.{OutOfMemory};
@@ -7,9 +7,10 @@ ghost use Rattle.sled_tree.specs.declared.error.TreeError.TheVariants.{Cache};
 use sled_pagecache::Error;
 use std::alloc::{AllocError, AllocFailed};
 
-/// Why a call of a map is refused. A refused call changes no map.
+/// The error of a call on a map. A call that returns an error changes no map.
 ///
-/// A write error is kept: every later call answers it, until the log is opened again. Then the change may be there, which was being written.
+/// A write error is sticky: every later call returns it, until the log is reopened. After reopening, the change that was being written may be
+/// there.
 #[derive(Debug, Drop, PartialEq, Eq, thiserror::Error)]
 pub enum TreeError {
     /// The key has more than [`MAX_BYTES`](sled_pagecache::sled_node::node::MAX_BYTES) bytes.
@@ -21,7 +22,7 @@ pub enum TreeError {
     /// No batch is open.
     #[error("error batch")]
     NoBatch,
-    /// What the cache answered. `Corruption` without a pointer comes where the token is of no map of these.
+    /// An error of the cache. `Corruption` without a pointer is returned if the token is not one of a map of this cache.
     #[error("{0}")]
     Cache(Error),
 }

@@ -1,7 +1,6 @@
-//! The pages of a map: gathered, and freed once no name leads there.
+//! Collecting the pages of a map, and freeing them once no name leads to them.
 
 ghost use Rattle.std.specs.Prelude.{◌≡◌, ◌⊎◌, [], ◌∷◌, ◌++◌, IfOk, OnOk};
-ghost use Rattle.sled_search.specs.Search.{HasNodeAt, LeadsTo};
 ghost use Rattle.sled_tree.specs.Changed.{Reads};
 ghost use Rattle.sled_tree.specs.Dropping.{AreLoose, AreReached, Frees, IsStopAt, LeadsOn};
 ghost use Rattle.sled_tree.specs.Maps.{Keeps};
@@ -31,7 +30,7 @@ struct Stop {
     way: Way,
 }
 
-/// The pages to which searches come from the root: those on the way to each leaf, from the first to the last.
+/// Returns the tokens of the pages that searches from the root reach: those on the way to each leaf, from the first leaf to the last.
 pub fn pages_of<L: Log>(
     alloc: Global,
     cache: &mut PageCache<L>,
@@ -119,7 +118,7 @@ fn stop_of(alloc: Global, node: &Node, token: PageView, key: &[u8]) -> Result<St
     })
 }
 
-/// Frees pages at which no search is. What can't be freed stays.
+/// Frees pages that no search reaches. A page that can't be freed stays, and no error is returned for it.
 pub fn free_all<L: Log>(cache: &mut PageCache<L>, pages: &[PageView])
     ensures { Performs L.Log (Keeps (AreLoose pages.now)) cache.old cache.new }
 {

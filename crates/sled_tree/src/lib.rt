@@ -1,21 +1,21 @@
-//! Ordered maps, by names, over the pages of a cache.
+//! Ordered maps with names, in the pages of a cache.
 //!
 //! In reading order:
 //!
-//! - `trees`: the maps, and their calls
-//! - `maps`: the same calls on the maps of a cache that stands elsewhere
-//! - `error`: why a call is refused
+//! - `trees`: the maps and their calls
+//! - `maps`: the same calls, for a cache that the caller passes in
+//! - `error`: the errors of these calls
 //! - `walk`: from a tree's root to the leaf of a key
-//! - `place`: where a key stands, or would, in its leaf
-//! - `room`: the leaf of a key, which has room for a pair
-//! - `splits`: the steps in which room is made
-//! - `merging`: what has lost its pairs goes into a neighbour
-//! - `swap`: setting a value, or taking one out, where another one stands
-//! - `neighbours`: the nearest pairs on either side of a bound, those between two, and how many there are
+//! - `place`: where a key is in its leaf, or would be
+//! - `room`: the leaf of a key, with room for a pair
+//! - `splits`: the steps that make room
+//! - `merging`: a node that has few pairs left is merged with a neighbour
+//! - `swap`: setting or removing the value of a key if it has the expected value
+//! - `neighbours`: the nearest pairs on either side of a bound, the pairs between two bounds, and the number of pairs
 //! - `freeing`: the pages of a map that is dropped
-//! - `named`: calls of the maps of a cache by their names
-//! - `examples`: what the definitions of these are, worked out
-//! - `calls`: that each call keeps the word that `openings` asks of it
+//! - `named`: calls on the maps of a cache by their names
+//! - `examples`: worked examples of the definitions
+//! - `calls`: each call does what the law of `openings` asks of it
 //! - `openings`: what holds of the maps of caches that are opened over one log, one after another
 #![tactic(auto)]
 

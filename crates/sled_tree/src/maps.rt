@@ -1,7 +1,7 @@
-//! The calls on the maps of a cache, which `Trees` has, and which those by names are made of.
+//! The calls on the maps of a cache. The calls of `Trees` and the calls by name are made of these.
 //!
 //! - `values`: reading and changing the value of a key
-//! - `ordered`: pairs in the order of their keys
+//! - `ordered`: pairs in key order
 //! - `names`: maps by their names
 
 pub mod names;

@@ -1,8 +1,8 @@
-//! Merging: a leaf or an index that has lost its pairs goes into a neighbour under the same index, and its page is freed.
+//! Merging: a leaf or an index that has few pairs left is merged with a neighbour under the same index, and the right one's page is freed.
 //!
-//! First the index above is put without the right one of the two: a search that it led there is led to the left one, and from there to the
-//! right. Then the left one is put with the pairs of both, and no search is at the right one any more. At last its page is freed. So a crash
-//! between two of these leaves the same map, and so does an error.
+//! First the index above is written without the right node: a search that it led there is now led to the left node, and from there to the right
+//! one. Then the left node is written with the pairs of both, and no search reaches the right node any more. Last, the right node's page is
+//! freed. So a crash or an error between two of these steps leaves the same map.
 
 ghost use Rattle.sled_tree.specs.Maps.{Keeps};
 ghost use Rattle.sled_tree.specs.Merging.{LooksOn};
@@ -20,8 +20,8 @@ use sled_node::Node;
 use sled_pagecache::{Error, Log, PageCache, PageId, sled_node};
 use sled_search::Turn;
 
-/// Merges a leaf that has few pairs left, in which a key was, with a neighbour that has room for these, and so each index on the way to it
-/// that has few children. What is refused is left as it is.
+/// Merges `leaf`, in which `key` was, with a neighbour that has room for its pairs, if it has few pairs left. In that case, each index on the way to
+/// it that has few children is merged in the same way too. What can't be merged stays as it is, and no error is returned.
 pub fn merge_few<L: Log>(
     cache: &mut PageCache<L>,
     root: PageId,

@@ -1,4 +1,4 @@
-//! Calls of the maps of a cache by their names. A name that has no map is one of an empty map, and is given a map where something is to be set.
+//! Calls on the maps of a cache by their names. A name that has no map counts as an empty map; a call that sets a value makes a map for it.
 
 ghost use Rattle.std.specs.Prelude.{◌≡◌, [], IfErr, OnOk, unwrap_or, length};
 ghost use Rattle.std.specs.Option.{option_map};
@@ -21,7 +21,7 @@ use sled_pagecache::sled_node::node::MAX_BYTES;
 use std::alloc::Global;
 use std::ops::Bound;
 
-/// Refuses a key that is too long for every map, with `KeyTooLong`.
+/// Checks the length of a key, and returns `KeyTooLong` if it is too long for any map.
 pub fn check_key(key: &[u8]) -> Result<(), TreeError>
     ensures long { IfErr result (λ e. (e ≡ KeyTooLong) × IsTooLong key.now) }
     ensures short { OnOk result (IsTooLong key.now → ⊥) }
@@ -32,7 +32,7 @@ pub fn check_key(key: &[u8]) -> Result<(), TreeError>
     Ok(())
 }
 
-/// Refuses a value that is too long for every map, with `ValueTooLong`.
+/// Checks the length of a value, and returns `ValueTooLong` if it is too long for any map.
 pub fn check_value(value: &[u8]) -> Result<(), TreeError>
     ensures long { IfErr result (λ e. (e ≡ ValueTooLong) × IsTooLong value.now) }
     ensures short { OnOk result (IsTooLong value.now → ⊥) }
@@ -69,7 +69,7 @@ fn tree_of_new<L: Log>(
     names::open(alloc, cache, name)
 }
 
-/// The value of a key.
+/// Returns the value of a key, if it has one.
 pub fn get<L: Log>(
     alloc: Global,
     cache: &mut PageCache<L>,
@@ -86,9 +86,9 @@ pub fn get<L: Log>(
     }
 }
 
-/// Sets the value of a key, and answers the one before.
+/// Sets the value of a key, and returns the value before.
 ///
-/// `KeyTooLong` and `ValueTooLong` come before a map is made.
+/// `KeyTooLong` and `ValueTooLong` are returned before a map is made.
 pub fn set<L: Log>(
     alloc: Global,
     cache: &mut PageCache<L>,
@@ -106,9 +106,9 @@ pub fn set<L: Log>(
     values::insert(alloc, cache, limits, tree, key, value)
 }
 
-/// Takes a key out, and answers the value that it had.
+/// Removes a key, and returns the value that it had.
 ///
-/// `KeyTooLong` comes before anything is read, whether or not there is a map.
+/// `KeyTooLong` is returned before anything is read, whether or not there is a map.
 pub fn remove<L: Log>(
     cache: &mut PageCache<L>,
     limits: Limits,
@@ -125,9 +125,9 @@ pub fn remove<L: Log>(
     }
 }
 
-/// Sets the value of a key, or takes it out, where it has the old value, or none. Else what it has comes back.
+/// Changes the value of a key to `new` if it is `old`, where `None` means no value. Otherwise it returns the current value as the inner error.
 ///
-/// `KeyTooLong` and `ValueTooLong` come before anything is read, and before a map is made.
+/// `KeyTooLong` and `ValueTooLong` are returned before anything is read, and before a map is made.
 pub fn swap<L: Log>(
     alloc: Global,
     cache: &mut PageCache<L>,
@@ -183,7 +183,7 @@ fn swap_in_new<L: Log>(
     values::compare_and_swap(alloc, cache, limits, tree, key, None, Some(value))
 }
 
-/// The pair with the least key.
+/// Returns the pair with the least key, if there is any.
 pub fn first<L: Log>(
     cache: &mut PageCache<L>,
     name: &[u8],
@@ -198,7 +198,7 @@ pub fn first<L: Log>(
     }
 }
 
-/// The pair with the greatest key.
+/// Returns the pair with the greatest key, if there is any.
 pub fn last<L: Log>(
     cache: &mut PageCache<L>,
     name: &[u8],
@@ -213,7 +213,7 @@ pub fn last<L: Log>(
     }
 }
 
-/// The first pair behind the bound.
+/// Returns the first pair after the bound, if there is one.
 pub fn next_above<L: Log>(
     cache: &mut PageCache<L>,
     name: &[u8],
@@ -229,7 +229,7 @@ pub fn next_above<L: Log>(
     }
 }
 
-/// The last pair before the bound.
+/// Returns the last pair before the bound, if there is one.
 pub fn next_below<L: Log>(
     cache: &mut PageCache<L>,
     name: &[u8],
@@ -245,7 +245,7 @@ pub fn next_below<L: Log>(
     }
 }
 
-/// The pair with the next greater key.
+/// Returns the pair with the next greater key, if there is one.
 pub fn above<L: Log>(
     cache: &mut PageCache<L>,
     name: &[u8],
@@ -254,7 +254,7 @@ pub fn above<L: Log>(
     next_above(cache, name, &Bound::Excluded(key))
 }
 
-/// The pair with the next smaller key.
+/// Returns the pair with the next smaller key, if there is one.
 pub fn below<L: Log>(
     cache: &mut PageCache<L>,
     name: &[u8],
@@ -263,7 +263,7 @@ pub fn below<L: Log>(
     next_below(cache, name, &Bound::Excluded(key))
 }
 
-/// How many pairs there are.
+/// Returns the number of pairs.
 pub fn count<L: Log>(cache: &mut PageCache<L>, name: &[u8]) -> Result<u64, TreeError>
     ensures pairs { Performs L.Log (Reads result (IsOfMap name.now
         (λ m count. count ≡ length m))) cache.old cache.new }
@@ -275,7 +275,7 @@ pub fn count<L: Log>(cache: &mut PageCache<L>, name: &[u8]) -> Result<u64, TreeE
     }
 }
 
-/// The pairs within two bounds that one leaf has, and where the others begin.
+/// Returns the first pairs within two bounds, those that one leaf has, and the key from which the others begin.
 pub fn range<L: Log>(
     alloc: Global,
     cache: &mut PageCache<L>,
@@ -296,9 +296,9 @@ pub fn range<L: Log>(
     }
 }
 
-/// The first name of a map behind this one, by its bytes, or the first of all.
+/// Returns the first name of a map after `after` in byte order, or the first of all names if `after` is `None`.
 ///
-/// All names are copied for that. Nothing is read from the log.
+/// It copies all names to do so, and reads nothing from the log.
 pub fn next_name<L: Log>(
     alloc: Global,
     cache: &PageCache<L>,

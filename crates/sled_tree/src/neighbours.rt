@@ -1,12 +1,12 @@
-//! The nearest pairs on either side of a bound, those between two, and how many there are.
+//! The nearest pairs on either side of a bound, the pairs between two bounds, and the number of pairs.
 //!
 //! In reading order:
 //!
-//! - `leaves`: the leaf of a key, and of the keys right before a bound
-//! - `above`: the first pair behind a bound
+//! - `leaves`: the leaf of a key, and that of the keys just before a bound
+//! - `above`: the first pair after a bound
 //! - `below`: the last pair before a bound
 //! - `pieces`: the pairs of a leaf within two bounds
-//! - `count`: how many pairs there are
+//! - `count`: the number of pairs
 
 pub mod above;
 pub mod below;

@@ -21,16 +21,19 @@ use sled_pagecache::laws::a_served_cache_stays_as_it_is;
 use sled_pagecache::openings::every_opening_shows_a_prefix;
 use sled_pagecache::rows::calls_in_a_row_are_steps;
 
-/// From an empty log, over every list of openings of maps, their calls, crashes at any moment, and logs handed on or rewritten: each
-/// opening's maps are those behind a prefix of the calls that were begun before, which holds all that were flushed and splits no batch, and
-/// its calls make of these what they say, one after another.
+/// However maps are opened, used and crashed, each opening has the maps that a prefix of the earlier calls made. The run begins with an empty log for
+/// which `tells` holds. It covers every list of openings with their calls, crashes at any moment, and logs that are passed to the next opening or
+/// rewritten.
 ///
-/// A call of maps is several of the cache. A crash inside one of these, or between two, leaves the maps as they were before the call, or as
-/// the call makes them. So does a write that fails; from then on nothing is made until the log is opened again. A call that made a flush
-/// flushes all that came before it. What is left of an opening is opened again as `every_opening_shows_a_prefix` says it.
+/// The prefix is one of all calls that began before. It holds every call that was flushed, and it splits no batch. Then each call of the opening
+/// changes these maps as it says, one after another.
 ///
-/// A run is made of what the contracts of the calls say (`each_call_keeps_its_word`). Where a call lacks what it needs, as one whose root has
-/// no map, nothing is said of it, nor of what comes after.
+/// A call on a map makes several calls of the cache. A crash inside one of these, or between two of them, leaves the maps as they were before the
+/// call, or as the call makes them. So does a write that fails; after that nothing is changed until the log is reopened. A call that makes a flush
+/// flushes all calls before it. The log that an opening leaves is reopened as `every_opening_shows_a_prefix` says.
+///
+/// A run consists of what the contracts of the calls promise (`each_call_keeps_its_word`). If a call lacks what it needs, for example if its root has
+/// no map, nothing is promised of that call and of all that follows.
 pub fn every_opening_shows_maps<L: Log>()
     ensures { L.tells → (log : L) (openings : List (Opening L MapCall)) → IsEmpty L.Log log
         → IsRun L.Log Needs Does log openings
@@ -41,7 +44,7 @@ pub fn every_opening_shows_maps<L: Log>()
     a_served_cache_stays_as_it_is::<L>();
 }
 
-/// The same over a log on a disk in memory, which tells its bytes: whatever is torn, and wherever the disk stops.
+/// The same over a log on a disk in memory, for which `tells` holds: whichever writes are torn, and wherever the disk stops.
 pub fn every_opening_of_a_disk_shows_maps()
     ensures { (log : DiskLog MemDisk ⟦<MemDisk as Disk>⟧)
         (openings : List (Opening (DiskLog MemDisk ⟦<MemDisk as Disk>⟧) MapCall))
@@ -53,7 +56,7 @@ pub fn every_opening_of_a_disk_shows_maps()
     every_opening_shows_maps::<DiskLog<MemDisk>>();
 }
 
-/// The same over a log on a file of the system, if the system keeps its word: what that is, `SystemFile` says.
+/// The same over a log on a file of the system, if the system does what `SystemFile` assumes of it.
 pub fn every_opening_of_a_file_shows_maps<F: SystemFile>()
     ensures { F.tells
         → (log : DiskLog (FileDisk F F.SystemFile) ⟦<FileDisk<F> as Disk>⟧)
@@ -67,8 +70,7 @@ pub fn every_opening_of_a_file_shows_maps<F: SystemFile>()
     every_opening_shows_maps::<DiskLog<FileDisk<F>>>();
 }
 
-/// The same over a log whose caller reads and writes its file (`StagedDisk`), if he keeps his word of the file: what that is, `CallersFile`
-/// says.
+/// The same over a log whose file the caller reads and writes (`StagedDisk`), if the caller does what `CallersFile` assumes of it.
 pub fn every_opening_of_a_callers_file_shows_maps<F: CallersFile>()
     ensures { F.tells
         → (log : DiskLog (StagedDisk F F.CallersFile) ⟦<StagedDisk<F> as Disk>⟧)
@@ -82,15 +84,15 @@ pub fn every_opening_of_a_callers_file_shows_maps<F: CallersFile>()
     every_opening_shows_maps::<DiskLog<StagedDisk<F>>>();
 }
 
-/// Where the last that was done made a flush and left the maps, a crash leaves exactly these.
+/// If the last call made a flush and left the maps as they were, a crash leaves exactly these maps.
 pub fn flushed_maps_survive()
     ensures { (h : History) (deed : Deed MapCall) (changes : List (Event Update))
         (pages : List Content) (w : Named) → flushes deed.calls ≡ true
         → Survives (history_after deed changes (named_by_now h) h) pages w → w ≡ named_by_now h }
 {}
 
-/// Calls between one that opens a batch and one that seals it survive a crash whole or not at all: the maps are those behind the opening of
-/// the batch or before it, or those behind its sealing or later.
+/// The calls between one that opens a batch and one that seals it survive a crash all or nothing. The maps are those after the call that opens
+/// the batch or an earlier one, or those after the call that seals it or a later one.
 pub fn a_batch_of_calls_survives_whole_or_not_at_all()
     ensures { (h : History) (before batch behind : List (Done Named)) (opened sealed : Named)
         → h.done

@@ -1,4 +1,4 @@
-//! Where a key stands, or would, in its leaf, and changing what is there.
+//! Where a key is in its leaf, or would be, and changing its value there.
 
 ghost use Rattle.std.specs.Prelude.{◌≡◌, false, IfOk};
 ghost use Rattle.sled_node.specs.Node.{IsInRange};
@@ -13,7 +13,7 @@ use sled_node::{Link, Node};
 use sled_pagecache::{Error, IVec, Log, PageCache, PageId, PageView, sled_node};
 use sled_search::{Turn, route};
 
-/// Where a key stands, or would: the token of the leaf, the key as it is stored there, and the value, if the key has one.
+/// Where a key is, or would be: the token of its leaf, the key as the leaf stores it, and its value, if it has one.
 #[derive(Drop)]
 pub struct Place {
     pub token: PageView,
@@ -21,14 +21,14 @@ pub struct Place {
     pub value: Option<IVec>,
 }
 
-/// What a search for a key with room for a pair meets first.
+/// What a search for a key's leaf with room for a pair meets first.
 #[derive(Drop)]
 pub enum Met {
     /// The leaf, with room for a pair.
     Leaf(Place),
-    /// A page with too many pairs, and the one that led there, or the same where it is the root.
+    /// A page with too many pairs, in the second place. In the first is the page that led there, or the same page if it is the root.
     Full(PageId, PageId),
-    /// A page that leads on to the right, and the one that led there.
+    /// A page that leads the key to the right, in the second place. In the first is the page that led there, or the same page if it is the root.
     Unled(PageId, PageId),
 }
 
@@ -41,8 +41,8 @@ enum Look {
     Right(PageId),
 }
 
-/// What a search from the root meets, to which pages within the limits have room. It passes over a page that leads on to the right unless it
-/// is to report them.
+/// Returns what a search for a key from the root meets first. Pages within the limits have room. A page that leads the key to the right is
+/// reported only if `reports` is true; otherwise the search follows it.
 pub fn seek<L: Log>(
     cache: &mut PageCache<L>,
     root: PageId,
@@ -74,7 +74,7 @@ pub fn seek<L: Log>(
     Err(Error::Corruption(None))
 }
 
-/// The place of a key, whether its leaf has room or not.
+/// Returns the place of a key, whether its leaf has room or not.
 pub fn place_for<L: Log>(cache: &mut PageCache<L>, root: PageId, key: &[u8]) -> Result<Place, Error>
     ensures { Performs L.Log (Reads result (λ pages place. IsPlaceOf pages root key.now place))
         cache.old cache.new }
@@ -140,7 +140,7 @@ fn place_in(node: &Node, token: PageView, key: &[u8]) -> Result<Place, Error>
     })
 }
 
-/// Sets the value of the key that stands there, or would, and answers the one before.
+/// Sets the value of the key at this place, and returns the value before.
 pub fn set<L: Log>(
     cache: &mut PageCache<L>,
     place: Place,
@@ -158,7 +158,7 @@ pub fn set<L: Log>(
     }
 }
 
-/// Takes out the key that stands there, and answers the value that it had.
+/// Deletes the key at this place, and returns the value that it had.
 pub fn delete<L: Log>(cache: &mut PageCache<L>, place: Place) -> Result<Option<IVec>, Error>
     ensures before { IfOk result (λ before. before ≡ place.value) }
     ensures links { Performs L.Log (LinksPlace place (Del place.stored) result)

@@ -1,4 +1,4 @@
-//! The leaf of a key, which has room for a pair.
+//! Finding the leaf of a key, with room for a pair.
 
 ghost use Rattle.sled_tree.specs.Maps.{Keeps};
 ghost use Rattle.sled_tree.specs.Performs.{Performs};
@@ -10,9 +10,9 @@ use crate::trees::Limits;
 use sled_pagecache::{Error, Log, PageCache, PageId};
 use std::alloc::Global;
 
-/// The place of a key in a leaf that has room for a pair.
+/// Returns the place of a key in a leaf that has room for a pair.
 ///
-/// What is met on the way that has too many pairs is split, and the search begins again: so an index that gets one more child has room for it.
+/// If the search meets a page with too many pairs, it splits that page and begins again. So an index that gets one more child has room for it.
 pub fn room_for<L: Log>(
     alloc: Global,
     cache: &mut PageCache<L>,

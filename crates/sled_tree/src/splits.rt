@@ -1,8 +1,8 @@
-//! Making room: a leaf or an index that has too many pairs is split.
+//! Splitting a leaf or an index that has too many pairs, to make room.
 //!
-//! The right part is put on a new page, to which nothing leads yet. Then the left part, which leads on to it, is put in place of the
-//! whole: from then on each key is led to the part that has it. At last the node above leads to the new page at once, which no answer
-//! depends on. So a crash between two of these leaves the same map, and so does an error.
+//! First the right part is put on a new page, to which nothing leads yet. Then the left part, which leads on to the new page, replaces the whole
+//! node: from then on each key is led to the part that has it. Last, the node above leads directly to the new page, which no result depends on.
+//! So a crash or an error between two of these steps leaves the same map.
 
 ghost use Rattle.std.specs.Prelude.{◌≡◌, ◌≢◌, ◌<◌, ◌≤◌, [], ◌∷◌, length, Some, IfOk, IfSome};
 ghost use Rattle.sled_node.specs.Children.{index_of};
@@ -29,7 +29,7 @@ struct Parts {
     right: Node,
 }
 
-/// Splits a child in two, to make room for a key, and leads the node above to both.
+/// Splits a child in two, to make room for a key, and makes the node above lead to both parts.
 pub fn split_child<L: Log>(
     cache: &mut PageCache<L>,
     above: PageId,
@@ -45,7 +45,7 @@ pub fn split_child<L: Log>(
     lead(cache, above, child, &at, sibling)
 }
 
-/// Splits the root, to make room for a key. It stays where it is: its parts are put on new pages, and it leads to these.
+/// Splits the root, to make room for a key. The root stays on its page: its parts go to new pages, and it becomes an index over these.
 pub fn grow<L: Log>(
     alloc: Global,
     cache: &mut PageCache<L>,
@@ -63,7 +63,7 @@ pub fn grow<L: Log>(
     put(cache, root, token, index)
 }
 
-/// Leads the node above to the page to the right of a child at once, where it led to the child what is there.
+/// Makes the node above lead directly to the page to the right of a child, if it leads keys of that page to the child so far.
 pub fn lead_right<L: Log>(
     cache: &mut PageCache<L>,
     above: PageId,
@@ -195,7 +195,7 @@ fn lead<L: Log>(
     }
 }
 
-/// A node that is to be put on the page of a token.
+/// The new node for the page of a token.
 #[derive(Drop)]
 pub struct Changed {
     pub token: PageView,
@@ -264,7 +264,7 @@ fn with_next(node: Node, page: PageId) -> Result<Node, Error>
     Ok(node)
 }
 
-/// Puts a node in place of what the page holds.
+/// Replaces what a page holds with a node.
 pub fn put<L: Log>(
     cache: &mut PageCache<L>,
     pid: PageId,

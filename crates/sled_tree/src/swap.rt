@@ -1,4 +1,4 @@
-//! Setting the value of a key, or taking it out, where another one stands.
+//! Setting or removing the value of a key if it has the expected value.
 
 ghost use Rattle.std.specs.Prelude.{◌≡◌, ◌≢◌, true, false, Some, None};
 ghost use Rattle.std.specs.Option.{option_map};
@@ -12,7 +12,7 @@ use crate::trees::Limits;
 use sled_pagecache::{Error, IVec, Log, PageCache, PageId};
 use std::alloc::Global;
 
-/// Sets the value of a key that has the old one, or none. Else what it has comes back.
+/// Sets the value of a key if its value is `old`, where `None` means no value. Otherwise it returns the current value as the inner error.
 pub fn set_where<L: Log>(
     alloc: Global,
     cache: &mut PageCache<L>,
@@ -33,7 +33,7 @@ pub fn set_where<L: Log>(
     Ok(Ok(()))
 }
 
-/// Takes out a key that has the old value, or none. Else what it has comes back.
+/// Removes a key if its value is `old`, where `None` means no value. Otherwise it returns the current value as the inner error.
 pub fn take_where<L: Log>(
     cache: &mut PageCache<L>,
     root: PageId,

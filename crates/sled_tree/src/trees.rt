@@ -1,4 +1,4 @@
-//! The maps, and their calls.
+//! The maps and their calls.
 
 ghost use Rattle.std.specs.Prelude.{◌≡◌, ◌-◌, ◌^◌};
 ghost use Rattle.std.specs.Borrow.{sem};
@@ -14,18 +14,18 @@ use sled_pagecache::{Log, PageCache, PageId};
 use std::alloc::Global;
 use std::marker::Model;
 
-/// Which map a call is for, of those that have names.
+/// The token of a named map. Calls take it to know which map they are for.
 ///
-/// It stays the same as long as the map is there, whatever is put into it, and until the log is opened again.
+/// It stays the same as long as the map exists, whatever is put into the map, until the log is reopened.
 #[derive(Clone, Copy, Debug, PartialEq, Eq)]
 pub struct Tree {
     // the page of the map's root, which never moves
     pub(crate) root: PageId,
 }
 
-/// How many pairs a leaf may have, and how many children an index, before it is split.
+/// The most pairs of a leaf and the most children of an index. The next call that sets a value and comes to a node with more splits it.
 ///
-/// Both are from 4 to 65,536. Short pairs want leaves of 32 to 64, and values of some hundred bytes want smaller ones.
+/// Both numbers are from 4 to 65,536. Leaves of 32 to 64 pairs suit short pairs; smaller leaves suit values of some hundred bytes.
 #[derive(Clone, Copy, Debug, PartialEq, Eq)]
 pub struct Limits {
     pairs: usize,
@@ -33,7 +33,7 @@ pub struct Limits {
 }
 
 impl Limits {
-    /// These numbers, or the nearest that may be.
+    /// Makes limits of these two numbers, each replaced by the nearest number in the range if it is outside.
     pub fn new(pairs: usize, children: usize) -> Limits
         ensures pairs { result.pairs ≡ nearest pairs }
         ensures children { result.children ≡ nearest children }
@@ -44,7 +44,7 @@ impl Limits {
         }
     }
 
-    /// What leaves and indices have where nothing else is said: 32 pairs, and 128 children.
+    /// Returns the default limits: 32 pairs in a leaf, and 128 children of an index.
     pub fn usual() -> Limits
         ensures pairs { result.pairs ≡ 32 }
         ensures children { result.children ≡ 128 }
@@ -72,14 +72,14 @@ impl Limits {
         count > most
     }
 
-    /// How many pairs a leaf may have.
+    /// Returns the most pairs of a leaf.
     pub fn pairs(&self) -> usize
         ensures { result ≡ self.now.pairs }
     {
         self.pairs
     }
 
-    /// How many children an index may have.
+    /// Returns the most children of an index.
     pub fn children(&self) -> usize
         ensures { result ≡ self.now.children }
     {
@@ -100,9 +100,10 @@ fn between(number: usize) -> usize
     }
 }
 
-/// Ordered maps from byte strings to byte strings, by names, over a cache that is theirs alone.
+/// Ordered maps from byte strings to byte strings, each with a name, in a cache that belongs only to them.
 ///
-/// Contracts see the cache. What they say of a map holds in whatever state that is, of whichever map the pages from the root on are.
+/// In contracts, the value of `Trees` is its cache. What a contract says of a map holds in any state of the cache, for whichever map the pages from
+/// the root on are.
 #[derive(Drop)]
 pub struct Trees<L: Log> {
     alloc: Global,
@@ -119,14 +120,15 @@ impl<L: Log> Model for Trees<L> {
 }
 
 impl<L: Log> Trees<L> {
-    /// The maps of a cache, which are those that were made of it before. Nothing is read, and nothing allocated.
+    /// Makes `Trees` of a cache, with the limits of [`Limits::usual`]. The maps are those that were made in this cache before. It reads nothing and
+    /// allocates nothing.
     pub fn new(alloc: Global, cache: PageCache<L>) -> Trees<L>
         ensures { result ≡ cache }
     {
         Trees::with_limits(alloc, cache, Limits::usual())
     }
 
-    /// The same, with other limits of leaves and indices. Those that were made before may have other sizes.
+    /// Makes `Trees` of a cache as [`Trees::new`] does, with these limits. Leaves and indices that were made before may have other sizes.
     pub fn with_limits(alloc: Global, cache: PageCache<L>, limits: Limits) -> Trees<L>
         ensures { result ≡ cache }
     {
@@ -137,14 +139,15 @@ impl<L: Log> Trees<L> {
         }
     }
 
-    /// The cache. Nothing is flushed.
+    /// Returns the cache. It flushes nothing.
     pub fn into_cache(self) -> PageCache<L>
         ensures { result ≡ self }
     {
         self.cache
     }
 
-    /// The cache, for calls of its own. A page of a map that they change, free or move to another number is that map's no more.
+    /// Returns a mutable reference to the cache, to make its own calls. A page of a map that such a call changes, frees or moves to another number no
+    /// longer belongs to that map.
     pub fn cache_mut(&mut self) -> &mut PageCache<L>
         ensures* lends { sem 𝓛 (LendsCache L.row L.Log self.entry result) }
         ensures value { result.now ≡ self.old }
@@ -152,7 +155,7 @@ impl<L: Log> Trees<L> {
         &mut self.cache
     }
 
-    /// The cache, to be looked at.
+    /// Returns a shared reference to the cache.
     pub fn cache(&self) -> &PageCache<L>
         ensures { result.now ≡ self.now }
     {

@@ -1,4 +1,4 @@
-//! From a tree's root to the leaf of a key, and what that has there.
+//! From a tree's root to the leaf of a key, and the value that the leaf has.
 
 ghost use Rattle.std.specs.Prelude.{◌≡◌, true, false, IfOk};
 ghost use Rattle.sled_search.specs.Routes.{Routes};
@@ -12,7 +12,7 @@ use sled_pagecache::{Error, IVec, Log, PageCache, PageId, sled_node};
 use sled_search::{Turn, route};
 use std::alloc::Global;
 
-/// So many turns no search takes but one that goes round: where a token's map was dropped, pages may lead in a circle.
+/// The most turns of a search. Only a search that goes in a circle takes more: pages may lead in a circle if the map of a token was dropped.
 pub const MOST_TURNS: u64 = 1 << 20;
 
 // What a page says of a key.
@@ -24,7 +24,7 @@ enum Sight {
     On(PageId),
 }
 
-/// The value that a key has in the tree with this root.
+/// Returns the value that a key has in the tree with this root, if it has one.
 pub fn value_for<L: Log>(
     alloc: Global,
     cache: &mut PageCache<L>,
@@ -83,7 +83,7 @@ fn value_here(alloc: Global, node: &Node, key: &[u8]) -> Result<Option<IVec>, Er
     }
 }
 
-/// Where the page leads the key.
+/// Returns where the page leads the key.
 pub fn turn_at<L: Log>(cache: &mut PageCache<L>, pid: PageId, key: &[u8]) -> Result<Turn, Error>
     ensures { Performs L.Log (Reads result (λ pages turn. HasNodeAt pages pid (Routes key.now turn)))
         cache.old cache.new }
@@ -95,7 +95,7 @@ pub fn turn_at<L: Log>(cache: &mut PageCache<L>, pid: PageId, key: &[u8]) -> Res
     }
 }
 
-/// Whether the search for a key from the root comes to the page.
+/// Returns whether the search for a key from the root comes to the page.
 pub fn is_on_way<L: Log>(
     cache: &mut PageCache<L>,
     root: PageId,

@@ -1,9 +1,9 @@
-//! The program `sledpc`: what it takes of the system. All else is [`sled_script`].
+//! The program `sledpc`: what it takes from the system. Everything else is in [`sled_script`], except for reading its arguments, which is
+//! in [`sled_lines`].
 #![tactic(auto)]
 
-use sled_script::{NoWords, drive};
-use std::env;
-use std::io::ErrorKind;
+use sled_lines::words_of;
+use sled_script::drive;
 use std::process::ExitCode;
 
 fn main(rt: HostRuntime) -> ExitCode {
@@ -21,17 +21,4 @@ fn main(rt: HostRuntime) -> ExitCode {
         &mut rt.stderr(),
     );
     ExitCode::from(status)
-}
-
-// The words after the program's own path.
-fn words_of(rt: &HostRuntime) -> Result<Vec<String>, NoWords> {
-    let words = match env::args(rt) {
-        Ok(words) => words,
-        Err(error) if error.kind() == ErrorKind::OutOfMemory => return Err(NoWords::Memory),
-        Err(_) => return Err(NoWords::NoText),
-    };
-    words
-        .skip(1)
-        .collect(rt.alloc())
-        .map_err(|_| NoWords::Memory)
 }

@@ -12,7 +12,7 @@ use Rattle.sled_base.specs.Payloads.Reading.{IsGrammar}
 use Rattle.sled_base.specs.Payloads.Numbers.{from_low_bytes, low_bytes, EncodesU64, ReadsU64, written_u64, ReadsLow, ReadsI64, written_i64, ReadsU8, written_u8, ReadsBool, written_bool}
 use Rattle.sled_base.specs.Payloads.PlainNumbers.{u64_at, after_one, after_two, after_many}
 
--- a fact of both choices is a fact of the choice
+-- what holds of both branches holds of the choice
 pub chosen : {A : Type 0} (P : A → Type 0) (b : Bool) (x y : A) → (b ≡ true → P x) → (b ≡ false → P y) → P (if b then x else y)
 chosen P true x y first second = first refl
 chosen P false x y first second = second refl
@@ -35,7 +35,7 @@ below_seven n count lt few =
     let most : 256 ^ count ≤ 256 ^ 7 = pow-le-pow_right {n = 256} (omega arith) few in
     omega arith
 
--- ---- what is written is an encoding
+-- ---- what is written is an encoding of the number
 
 pub encodes_written : (n : ℕ) → n < 2 ^ 64 → EncodesU64 (written_u64 n) n
 encodes_written n lt =
@@ -53,7 +53,7 @@ encodes_written n lt =
 
 -- ---- the plain reader computes the grammar
 
--- an encoding in front is read
+-- an encoding at the front is read
 pub reads_encoding : (encoding rest : List ℕ) (n : ℕ) → EncodesU64 encoding n → u64_at (encoding ++ rest) ≡ Some (n, rest)
 unfolding u64_at
 reads_encoding [] rest n h = absurd h
@@ -88,7 +88,7 @@ two_more b [] n rest is e = absurd cc
 two_more b (c ∷ []) n rest is e = absurd cc
 two_more b (c ∷ d ∷ out) n rest is e = after (b ∷ c ∷ d ∷ []) rest n (2288 + 256 * c + d) out (is, refl) e
 
--- three bytes or more behind the first
+-- three bytes or more after the first
 many_encode : (b : ℕ) (low : List ℕ) → b < 256 → 3 ≤ length low → b ≡ 247 + length low → EncodesU64 (b ∷ low) (from_low_bytes low)
 many_encode b [] byte long is = absurd (omega arith)
 many_encode b (c ∷ []) byte long is = absurd (omega arith)
@@ -104,7 +104,7 @@ many_more b bytes n rest byte low =
     let encodes = many_encode b (take count bytes) byte (omega arith) (omega arith) in
     subst (λ input. ReadsU64 (b ∷ input) n rest) (take-append-drop count bytes) (after (b ∷ take count bytes) rest n (from_low_bytes (take count bytes)) (drop count bytes) encodes e))
 
--- what is read has an encoding in front
+-- what is read has its encoding at the front
 pub encoding_read : (input : List ℕ) (n : ℕ) (rest : List ℕ) → get_or input 0 0 < 256 → u64_at input ≡ Some (n, rest) → ReadsU64 input n rest
 unfolding u64_at
 encoding_read [] n rest byte e = absurd cc
@@ -118,7 +118,7 @@ encoding_read (b ∷ bytes) n rest byte e =
     let above : 249 < b = grind arith in
     many_more b bytes n rest byte above is))) e
 
--- the grammar of numbers has one reading, reads what is written, and takes a byte
+-- the grammar of numbers has one reading, reads what is written, and consumes at least a byte
 pub U64-complete : (input : List ℕ) (n : ℕ) (rest : List ℕ) → ReadsU64 input n rest → u64_at input ≡ Some (n, rest)
 U64-complete input n rest (encoding, is, encodes) = rw is (reads_encoding encoding rest n encodes)
 
@@ -133,9 +133,9 @@ U64-grammar = record {
   takes = takes_one;
 }
 
--- ---- so many bytes, and a signed number
+-- ---- a given number of bytes, and a signed number
 
--- two encodings of one length in front of the same
+-- two encodings of the same length at the front of the same input
 pub same_front : (v w r s : List ℕ) → length v ≡ length w → v ++ r ≡ w ++ s → (v ≡ w) × (r ≡ s)
 same_front v w r s len is =
     let n = length w in

@@ -2,12 +2,13 @@
 use Rattle.std.specs.Prelude.{◌≡◌, ℕ, zero, suc, ◌+◌, ◌-◌, ◌*◌, ◌/◌, ◌%◌, ◌^◌, ◌≤◌, ℤ, Bool, true, false, not, ◌==◌, List, [], ◌∷◌, ◌++◌, length, nat_le, nat_lt, if◌then◌else◌}
 use Rattle.std.specs.Int.{w64, cast_signed, cast_unsigned}
 
--- the number that the bytes make, the lowest first
+-- the number that the bytes encode, the lowest byte first
 abbrev pub from_low_bytes : List ℕ → ℕ
 from_low_bytes [] = 0
 from_low_bytes (byte ∷ bytes) = byte + 256 * from_low_bytes bytes
 
--- An encoding of a number, by how many bytes it has: the number itself; 240 and more; 2288 and more; or 3 to 8 bytes, of any value.
+-- An encoding of a number, by its number of bytes. One byte is the number itself, two bytes start from 240, and three from 2288.
+-- In a longer encoding 3 to 8 bytes of any value follow the first byte.
 abbrev pub EncodesU64 : List ℕ → ℕ → Type 0
 EncodesU64 [] n = ⊥
 EncodesU64 (b ∷ []) n = (b ≤ 240) × (n ≡ b)
@@ -15,16 +16,16 @@ EncodesU64 (b ∷ c ∷ []) n = (241 ≤ b) × (b ≤ 248) × (n ≡ 240 + 256 *
 EncodesU64 (b ∷ c ∷ d ∷ []) n = (b ≡ 249) × (n ≡ 2288 + 256 * c + d)
 EncodesU64 (b ∷ c ∷ d ∷ e ∷ bytes) n = (b ≤ 255) × (b ≡ 250 + length bytes) × (n ≡ from_low_bytes (c ∷ d ∷ e ∷ bytes))
 
--- the input is an encoding of the number, and then the rest
+-- the input is an encoding of the number, followed by the rest
 abbrev pub ReadsU64 : List ℕ → ℕ → List ℕ → Type 0
 ReadsU64 input n rest = (encoding : List ℕ) × (input ≡ encoding ++ rest) × EncodesU64 encoding n
 
--- so many bytes of a number, the lowest first
+-- the given number of low bytes of a number, the lowest first
 abbrev pub low_bytes : ℕ → ℕ → List ℕ
 low_bytes zero n = []
 low_bytes (suc count) n = n % 256 ∷ low_bytes count (n / 256)
 
--- how many bytes a number above 67823 is written in: the least of 3 to 8 that fit
+-- how many bytes are written for a number above 67823: the least of 3 to 8 that hold it
 abbrev pub byte_count : ℕ → ℕ
 byte_count n =
     if nat_lt n (2 ^ 24) then 3 else
@@ -41,7 +42,7 @@ written_u64 n =
     if nat_le n 67823 then 249 ∷ (n - 2288) / 256 ∷ (n - 2288) % 256 ∷ [] else
     (247 + byte_count n) ∷ low_bytes (byte_count n) n
 
--- so many bytes, the lowest first
+-- a number in the given number of bytes, the lowest first
 abbrev pub ReadsLow : ℕ → List ℕ → ℕ → List ℕ → Type 0
 ReadsLow count input n rest = (bytes : List ℕ) × (input ≡ bytes ++ rest) × (length bytes ≡ count) × (n ≡ from_low_bytes bytes)
 

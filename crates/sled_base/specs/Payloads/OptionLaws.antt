@@ -35,7 +35,7 @@ same_signed (Some (negsuc m)) (Some (negsuc n)) e = let same : m ≡ n = cc in a
 pub Signed-grammar : IsGrammar ReadsSigned written_signed CanWriteSigned (λ _ _. Unit {0}) 8
 Signed-grammar = By-grammar signed_of same_signed I64-grammar
 
--- two numbers that are not 0 are one where their values are
+-- two nonzero numbers are equal if their values are
 same_page_number : (v w : NonZeroU64) → v.value ≡ w.value → v ≡ w
 same_page_number v w e =
     let ok : PathP (λ j. 0 < e j) v.ok w.ok = to_path_p (λ j. 0 < e j) {a = v.ok} {b = w.ok} (le_prop _ _) in

@@ -6,7 +6,7 @@ use Rattle.std.specs.Int.NonZero.{non_zero_u64_get}
 use Rattle.std.specs.Int.RustNames.{FitsSigned}
 use Rattle.sled_base.specs.Payloads.Numbers.{ReadsU64, written_u64, ReadsI64, written_i64}
 
--- 0, or one more than the number
+-- 0 if it is missing, or else one more than the number
 abbrev pub number_of : Option ℕ → ℕ
 number_of None = 0
 number_of (Some n) = n + 1
@@ -17,11 +17,11 @@ ReadsOption input value rest = ReadsU64 input (number_of value) rest
 abbrev pub written_option : Option ℕ → List ℕ
 written_option value = written_u64 (number_of value)
 
--- every number but the greatest
+-- every number except the greatest
 abbrev pub CanWriteOption : Option ℕ → Type 0
 CanWriteOption value = number_of value < 2 ^ 64
 
--- 0, a negative number itself, or one more than another
+-- 0 if it is missing, a negative number itself, or one more than any other number
 abbrev pub signed_of : Option ℤ → ℤ
 signed_of None = pos 0
 signed_of (Some (pos n)) = pos (n + 1)
@@ -33,11 +33,11 @@ ReadsSigned input value rest = ReadsI64 input (signed_of value) rest
 abbrev pub written_signed : Option ℤ → List ℕ
 written_signed value = written_i64 (signed_of value)
 
--- every number but the greatest
+-- every number except the greatest
 abbrev pub CanWriteSigned : Option ℤ → Type 0
 CanWriteSigned value = FitsSigned w64 (signed_of value)
 
--- 0, or the number, which isn't 0
+-- 0 if it is missing, or else the number, which isn't 0
 abbrev pub page_number : Option NonZeroU64 → ℕ
 page_number None = 0
 page_number (Some page) = non_zero_u64_get page

@@ -29,7 +29,7 @@ module _
       takes = λ input v rest found. omega (arith, one.takes input v.0 found.0 found.1, two.takes found.0 v.1 rest found.2);
     }
 
--- what stands behind one tag
+-- what follows a tag
 pub behind : (tag : ℕ) (input r s : List ℕ) → input ≡ tag ∷ r → input ≡ tag ∷ s → r ≡ s
 behind tag input r s left right = cc
 
@@ -37,7 +37,7 @@ behind tag input r s left right = cc
 pub first : (input : List ℕ) (tag : ℕ) (rest : List ℕ) → input ≡ tag ∷ rest → get_or input 0 5 ≡ tag
 first input tag rest is = ap (λ bytes. get_or bytes 0 5) is
 
--- a value behind its tag, which is read with one rest
+-- a value after its tag is read in one way, with one rest
 pub one_tagged : {V W : Type 0} {reads : List ℕ → W → List ℕ → Type 0} {written : W → List ℕ} {can_write : W → Type 0} {can_follow : W → List ℕ → Type 0} {n : ℕ} → IsGrammar reads written can_write can_follow n → (make : W → V) (tag : ℕ) (input : List ℕ) (v w : W) (r s : List ℕ)
     → ((parts : List ℕ) × (input ≡ tag ∷ parts) × reads parts v r) → ((parts : List ℕ) × (input ≡ tag ∷ parts) × reads parts w s) → (make v ≡ make w) × (r ≡ s)
 one_tagged {V} {W} {reads} grammar make tag input v w r s (parts, is, left) (others, also, right) =
@@ -54,7 +54,7 @@ module _ {V : Type 0} {reads : List ℕ → V → List ℕ → Type 0} {written 
     takes = λ input v rest found. grammar.takes input v rest found.0;
   }
 
--- a value that is encoded as another, which no two values share
+-- a value that is encoded as another one, which differs for each value
 module _ {V W : Type 0} {reads : List ℕ → V → List ℕ → Type 0} {written : V → List ℕ} {can_write : V → Type 0} {can_follow : V → List ℕ → Type 0} {n : ℕ} where
   pub By-grammar : (f : W → V) → ((v w : W) → f v ≡ f w → v ≡ w) → IsGrammar reads written can_write can_follow n
       → IsGrammar (λ input v rest. reads input (f v) rest) (λ v. written (f v)) (λ v. can_write (f v)) (λ v rest. can_follow (f v) rest) n
@@ -75,9 +75,9 @@ module _
     Triple-grammar one two three =
         By-grammar (λ (t : V × W × X). (t.0, (t.1, t.2))) (λ v w e. (λ i. ((e i).0, (e i).1.0, (e i).1.1))) (Pair-grammar one (Pair-grammar two three))
 
--- ---- which readings take a byte of an input that has one
+-- ---- which readings consume a byte of an input that isn't empty
 
--- those that always take one
+-- those that always consume one
 module _ {V : Type 0} {reads : List ℕ → V → List ℕ → Type 0} {written : V → List ℕ} {can_write : V → Type 0} {can_follow : V → List ℕ → Type 0} {n : ℕ} where
   pub some_taken : IsGrammar reads written can_write can_follow (suc n) → true ≡ true → TakesAByte reads
   some_taken grammar so input value rest some found = omega (arith, grammar.takes input value rest found)
@@ -89,7 +89,7 @@ pub some_bytes : (input : List ℕ) → input ≢ [] → 0 < length input
 some_bytes [] some = absurd (some refl)
 some_bytes (x ∷ input) some = omega arith
 
--- of what another reading left
+-- those of what another reading left
 module _ {V : Type 0} {reads : List ℕ → V → List ℕ → Type 0} where
   taken_behind : TakesAByte reads → (input middle : List ℕ) (value : V) (rest : List ℕ) → input ≢ [] → length middle ≤ length input → length rest ≤ length middle → reads middle value rest → length rest < length input
   taken_behind takes input [] value rest some shorter less found = omega (arith, some_bytes input some, shorter, less)
@@ -102,7 +102,7 @@ module _
     {write_first : V → List ℕ} {write_second : W → List ℕ} {can_first : V → Type 0} {can_second : W → Type 0}
     {follows_first : V → List ℕ → Type 0} {follows_second : W → List ℕ → Type 0} {m n : ℕ}
   where
-    -- a pair, where one of its parts does
+    -- a pair, if one of its parts does
     pub Pair-takes : (a b : Bool) → (a ≡ true → TakesAByte first) → (b ≡ true → TakesAByte second)
         → IsGrammar first write_first can_first follows_first m → IsGrammar second write_second can_second follows_second n
         → a || b ≡ true → TakesAByte (ReadsPair first second)
@@ -120,7 +120,7 @@ module _
     {write_first : V → List ℕ} {write_second : W → List ℕ} {write_third : X → List ℕ} {can_first : V → Type 0} {can_second : W → Type 0} {can_third : X → Type 0}
     {follows_first : V → List ℕ → Type 0} {follows_second : W → List ℕ → Type 0} {follows_third : X → List ℕ → Type 0} {m n o : ℕ}
   where
-    -- a triple, where one of its parts does
+    -- a triple, if one of its parts does
     pub Triple-takes : (a b c : Bool) → (a ≡ true → TakesAByte first) → (b ≡ true → TakesAByte second) → (c ≡ true → TakesAByte third)
         → IsGrammar first write_first can_first follows_first m → IsGrammar second write_second can_second follows_second n → IsGrammar third write_third can_third follows_third o
         → a || (b || c) ≡ true → TakesAByte (ReadsTriple first second third)

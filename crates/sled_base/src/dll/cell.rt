@@ -27,7 +27,7 @@ pub struct Link {
 
 /// A cell in the space of a link.
 ///
-/// Contracts see it as the `Cell` that [`get`](PackedCell::get) answers, which takes half as much again.
+/// Contracts see it as the `Cell` that [`get`](PackedCell::get) returns, which takes half as much space again.
 #[derive(Clone, Copy)]
 pub struct PackedCell {
     // the link, or where the cell is free a mark as its `before`, and as its `after` the next free cell
@@ -52,7 +52,7 @@ impl Model for PackedCell {
 }
 
 impl PackedCell {
-    /// A cell with an item.
+    /// Returns a cell with an item. The link must not have the mark of a free cell as its `before`.
     pub fn linked(link: Link) -> PackedCell
         requires { IsUnmarked (Linked link) }
         ensures { result ≡ Linked link }
@@ -60,7 +60,7 @@ impl PackedCell {
         PackedCell { link }
     }
 
-    /// A free cell, and the next one.
+    /// Returns a free cell that names the next free one.
     pub fn free(next: OptionalSlot) -> PackedCell
         ensures { result ≡ Free next }
     {
@@ -73,7 +73,7 @@ impl PackedCell {
         }
     }
 
-    /// What the cell is.
+    /// Returns the cell in the form of a `Cell`.
     pub fn get(self) -> Cell
         ensures cell { result ≡ self }
         ensures unmarked { IsUnmarked result }

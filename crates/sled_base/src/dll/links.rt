@@ -1,7 +1,7 @@
 //! The cells of a doubly linked list.
 //!
-//! They stand in one vector, and a slot is a place in it. Each cell holds an item of the list and names its neighbours, or
-//! it is free and names the next free cell.
+//! They are in one vector, and a slot is an index of it. Each cell holds an item of the list and names its neighbours, or it is
+//! free and names the next free cell.
 
 ghost use Rattle.std.specs.Prelude.{◌≡◌, ◌<◌, [], ◌∷◌, ◌++◌, length, IfOk, OnErr, IfSome, IfNone, Contains, IsTrue, ◌↔◌, Option, Some, false};
 ghost use Rattle.std.specs.List.{slice_get};
@@ -18,7 +18,7 @@ use crate::PageId;
 use crate::growth::reserve;
 use std::alloc::{AllocError, Global};
 
-/// The cells, and where their rows begin and end.
+/// The cells, the head and the tail of the list, and the first free cell.
 #[derive(Drop)]
 pub struct Links {
     cells: Vec<PackedCell>,
@@ -30,7 +30,7 @@ pub struct Links {
 }
 
 impl Links {
-    /// No cells. It allocates nothing.
+    /// Returns a list without cells. It allocates nothing.
     pub fn new(alloc: Global) -> Links
         ensures kept { IsLinkedList [] result }
         ensures list { listed_in result ≡ [] }
@@ -44,12 +44,12 @@ impl Links {
         }
     }
 
-    /// The allocator of the cells.
+    /// Returns the allocator of the cells.
     pub fn allocator(&self) -> Global {
         *self.cells.allocator()
     }
 
-    /// How many items there are.
+    /// Returns the number of items.
     pub fn len(&self) -> usize
         requires { IsLinkedList [] self.now }
         ensures { result ≡ length (listed_in self.now) }
@@ -57,7 +57,7 @@ impl Links {
         self.len
     }
 
-    /// The slot of the first item, or None where there is none.
+    /// Returns the slot of the first item, or None if there is none.
     pub fn first(&self) -> Option<Slot>
         requires { IsLinkedList [] self.now }
         ensures value { result ≡ first_slot_or None (listed_in self.now) }
@@ -67,7 +67,7 @@ impl Links {
         self.head.get()
     }
 
-    /// The slot of the last item, or None where there is none.
+    /// Returns the slot of the last item, or None if there is none.
     pub fn last(&self) -> Option<Slot>
         requires { IsLinkedList [] self.now }
         ensures value { result ≡ last_slot (listed_in self.now) }
@@ -77,7 +77,7 @@ impl Links {
         self.tail.get()
     }
 
-    /// Whether the slot has an item.
+    /// Returns whether the slot has an item.
     pub fn is_linked(&self, slot: Slot) -> bool
         requires { IsLinkedList [] self.now }
         ensures { IsTrue result ↔ Contains (slots (listed_in self.now)) slot }
@@ -86,7 +86,7 @@ impl Links {
         place < self.cells.len() && matches!(self.cells[place].get(), Cell::Linked(_))
     }
 
-    /// The slot in the space of one number.
+    /// Returns the slot in the space of one number. The slot must have an item.
     pub fn packed(&self, slot: Slot) -> OptionalSlot
         requires kept { IsLinkedList [] self.now }
         requires live { Contains (slots (listed_in self.now)) slot }
@@ -95,7 +95,7 @@ impl Links {
         OptionalSlot::some(slot)
     }
 
-    /// The item of the slot with its neighbours.
+    /// Returns the item of the slot with its neighbours. The slot must have an item.
     pub fn link(&self, slot: Slot) -> Link
         requires kept { IsLinkedList [] self.now }
         requires live { Contains (slots (listed_in self.now)) slot }
@@ -107,10 +107,10 @@ impl Links {
         }
     }
 
-    /// A cell for an item: the first that is free, or else a new one.
+    /// Takes a cell for an item: the first free one, or else a new one.
     ///
-    /// It is neither listed nor free then. An error means out of memory, and leaves the list unchanged. It is answered too
-    /// where there are 2^32 - 2 cells, which take 64 GiB. A shard of a cache has at most 2^29 places, so it never comes there.
+    /// The cell is then neither listed nor free. An error means that the allocation failed, or that all of 2^32 - 2 cells, which take
+    /// 64 GiB, are in use. It leaves the list unchanged. A shard of a cache has at most 2^29 places, so it never reaches that limit.
     pub fn take(&mut self) -> Result<Slot, AllocError>
         requires { IsLinkedList [] self.old }
         ensures ok { IfOk result (λ slot. IsLinkedList (slot ∷ []) self.new) }
@@ -143,7 +143,7 @@ impl Links {
         Ok(slot)
     }
 
-    /// Puts an item into a cell that was taken, and in front of the others.
+    /// Puts an item into a cell that was taken, and links it before the others.
     pub fn link_head(&mut self, slot: Slot, item: PageId)
         requires { IsLinkedList (slot ∷ []) self.old }
         ensures kept { IsLinkedList [] self.new }
@@ -162,7 +162,7 @@ impl Links {
         self.len += 1;
     }
 
-    /// Puts an item into a cell that was taken, and behind the others.
+    /// Puts an item into a cell that was taken, and links it after the others.
     pub fn link_tail(&mut self, slot: Slot, item: PageId)
         requires { IsLinkedList (slot ∷ []) self.old }
         ensures kept { IsLinkedList [] self.new }
@@ -181,7 +181,7 @@ impl Links {
         self.len += 1;
     }
 
-    /// Takes an item out. Its cell is neither listed nor free then.
+    /// Removes the item of the slot and returns it. Its cell is then neither listed nor free.
     pub fn unlink(&mut self, slot: Slot) -> PageId
         requires kept { IsLinkedList [] self.old }
         requires live { Contains (slots (listed_in self.old)) slot }
@@ -203,7 +203,7 @@ impl Links {
         link.item
     }
 
-    /// Takes an item out, and sets its cell free.
+    /// Removes the item of the slot and returns it, and frees its cell.
     pub fn remove(&mut self, slot: Slot) -> PageId
         requires kept { IsLinkedList [] self.old }
         requires live { Contains (slots (listed_in self.old)) slot }

@@ -10,12 +10,12 @@ use std::marker::Model;
 // The number of no slot.
 const NO_SLOT: u32 = u32::MAX;
 
-/// There are at most so many cells, so no slot has the number itself. By it a cell says that it is free.
+/// The largest number of cells. No slot has this number, so it marks a free cell.
 pub const CELLS: u32 = u32::MAX - 1;
 
 /// A slot, or none.
 ///
-/// Contracts see it as the `Option` that [`get`](OptionalSlot::get) answers, which takes twice the space.
+/// Contracts see it as the `Option` that [`get`](OptionalSlot::get) returns, which takes twice the space.
 #[derive(Clone, Copy)]
 pub struct OptionalSlot(u32);
 
@@ -35,14 +35,14 @@ impl Model for OptionalSlot {
 }
 
 impl OptionalSlot {
-    /// No slot.
+    /// Returns the value for no slot.
     pub fn none() -> OptionalSlot
         ensures { result ≡ None }
     {
         OptionalSlot(NO_SLOT)
     }
 
-    /// The slot.
+    /// Returns the value for the slot, whose number must be below `u32::MAX`.
     pub fn some(slot: Slot) -> OptionalSlot
         requires { slot.0 < no_slot }
         ensures { result ≡ Some slot }
@@ -50,7 +50,7 @@ impl OptionalSlot {
         OptionalSlot(slot.0)
     }
 
-    /// The slot, or None.
+    /// Returns the slot, or None if there is none.
     pub fn get(self) -> Option<Slot>
         ensures { result ≡ self }
     {
@@ -60,21 +60,21 @@ impl OptionalSlot {
         Some(Slot(self.0))
     }
 
-    /// The mark of a free cell.
+    /// Returns the mark of a free cell.
     pub fn mark() -> OptionalSlot
         ensures { result ≡ Some (record { 0 = cell_limit }) }
     {
         OptionalSlot(CELLS)
     }
 
-    /// Whether it is that mark.
+    /// Returns whether this is the mark of a free cell.
     pub fn is_mark(self) -> bool
         ensures { result ≡ is_mark self }
     {
         self.0 == CELLS
     }
 
-    /// The slot, or the other where there is none.
+    /// Returns the slot, or `other` if there is none.
     pub fn or(self, other: OptionalSlot) -> OptionalSlot
         ensures { result ≡ option_or self other }
     {

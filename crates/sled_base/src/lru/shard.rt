@@ -1,7 +1,7 @@
 //! A shard of a cache's pages by their recent use.
 //!
-//! Its places stand in a list with their sizes, and for each place an entry names its slot there. So an access takes
-//! constant time, but for the places that leave.
+//! Its places are in a list with their sizes, and an entry for each place names its slot there. So an access takes constant time,
+//! except for the places that are evicted.
 
 ghost use Rattle.std.specs.Prelude.{◌≡◌, ◌≢◌, ◌<◌, ◌≤◌, ◌+◌, ◌^◌, ℕ, [], ◌∷◌, length, All, IfOk, OnOk, OnErr, IsOk, IfSome, IsSome, Contains, Some, vec_len};
 ghost use Rattle.sled_base.specs.Dll.{slots};
@@ -11,13 +11,12 @@ ghost use Rattle.sled_base.specs.Shards.{place_in, size_in, entry_at, PutsFirst,
 ghost use Rattle.sled_base.specs.declared.dll.Slot.{Slot};
 
 use super::item;
-use crate::PageId;
 use crate::dll::{DoublyLinkedList, OptionalSlot, Slot};
 use crate::growth::reserve;
 use std::alloc::{AllocError, Global};
 use std::marker::Model;
 
-/// Places with their sizes, from the most recently used on.
+/// Places with their sizes, the most recently used first.
 #[derive(Drop)]
 pub struct Shard {
     // the places with their sizes
@@ -42,7 +41,7 @@ impl Model for Shard {
 }
 
 impl Shard {
-    /// A shard that lists nothing. It allocates nothing.
+    /// Returns a shard that lists nothing. It allocates nothing.
     pub fn new(alloc: Global, capacity: u64) -> Shard
         ensures { result ≡ record { capacity = capacity; listings = [] } }
     {
@@ -54,11 +53,10 @@ impl Shard {
         }
     }
 
-    /// Puts the place first with the size 2^exponent, and the places that leave for it, from the last on, into `gone` in
-    /// place of what it held.
+    /// Makes the place the first one, with the size 2^exponent, and puts the places that are evicted for it into `gone`.
     ///
-    /// It allocates before it changes anything, so an error leaves both unchanged. It allocates nothing where the place is
-    /// listed with that size.
+    /// They replace what `gone` held, and the least recently used is the first. It allocates before it changes anything, so an error
+    /// leaves the listed places and the items of `gone` unchanged. It allocates nothing if the place is already listed with that size.
     pub fn accessed(
         &mut self,
         place: u64,

@@ -1,4 +1,4 @@
-//! Byte strings.
+//! The encoding of byte strings.
 
 ghost use Rattle.std.specs.Prelude.{◌≡◌, ◌≤◌, ◌++◌, length, drop, IfSome, IfNone};
 ghost use Rattle.sled_base.specs.Payloads.Reading.{ReadsNoValue};
@@ -12,7 +12,7 @@ use crate::ivec::IVec;
 use crate::types::Error;
 use std::alloc::Global;
 
-/// The byte string at the front, where it lies, and the rest, or none where none is read. It allocates nothing.
+/// Borrows the byte string at the front and the rest, or returns None if there is no byte string. It allocates nothing.
 pub fn split_bytes(bytes: &[u8]) -> Option<(&[u8], &[u8])>
     ensures read { IfSome result (λ x. ReadsBytes bytes.now x.0.now x.1.now) }
     ensures nothing { IfNone result (ReadsNoValue ReadsBytes bytes.now) }
@@ -24,7 +24,7 @@ pub fn split_bytes(bytes: &[u8]) -> Option<(&[u8], &[u8])>
     Some(rest.split_at(len as usize))
 }
 
-/// Writes a byte string at the front, where there is room for it, and answers how many bytes it took.
+/// Writes a byte string at the front of `out`, which must have room for it, and returns how many bytes it took.
 pub fn write_bytes(bytes: &[u8], out: &mut [u8]) -> usize
     requires can_write { CanWriteBytes bytes.now }
     requires room { length (written_bytes bytes.now) ≤ length out.old }

@@ -1,4 +1,4 @@
-//! Values to the end of an input.
+//! Reading values to the end of an input.
 
 ghost use Rattle.std.specs.Prelude.{◌≡◌, false};
 
@@ -7,10 +7,10 @@ use crate::types::Error;
 use std::alloc::Global;
 use std::marker::{Model, PhantomData};
 
-/// Gives the values of an input in order, to its end or to the first refusal, which is the last item.
+/// An iterator over the values of an input in order, to its end or to the first error, which is the last item.
 ///
-/// Each item but a refusal takes a byte of the input at least, so there is an end. That isn't so for `()` and for tuples of
-/// `()` alone, which take no byte: of an input that isn't empty they come without end.
+/// Each value consumes at least a byte of the input, so the iteration ends. The exception is `()` and tuples that consist only of
+/// `()`: they consume no byte, so over an input that isn't empty the iteration never ends.
 #[derive(Drop)]
 pub struct ConsumeSequence<'a, T> {
     alloc: Global,
@@ -28,7 +28,7 @@ impl<'a, T> Model for ConsumeSequence<'a, T> {
 }
 
 impl<'a, T: Serialize> ConsumeSequence<'a, T> {
-    /// The values of the input.
+    /// Returns an iterator over the values of the input.
     pub fn new(alloc: Global, input: &'a [u8]) -> ConsumeSequence<'a, T>
         ensures { result ≡ record { rest = input.now; refused = false } }
     {

@@ -1,4 +1,4 @@
-//! What the mark of a batch holds.
+//! The encoding of what the mark of a batch holds.
 
 ghost use Rattle.std.specs.Prelude.{◌≡◌};
 ghost use Rattle.sled_base.specs.Payloads.Manifests.{place_in, ReadsManifest, written_manifest, CanWriteManifest};

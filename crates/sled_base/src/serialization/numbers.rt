@@ -1,4 +1,4 @@
-//! Numbers.
+//! The encoding of numbers.
 
 ghost use Rattle.std.specs.Prelude.{◌≡◌, ◌-◌, ◌<◌, ◌≤◌, ◌^◌, ◌++◌, length, replicate, IfSome, IfNone};
 ghost use Rattle.std.specs.Int.{w64};
@@ -56,7 +56,7 @@ fn read_low(bytes: &[u8], count: usize) -> Option<(u64, &[u8])>
     Some((from_low_bytes(low), rest))
 }
 
-/// The number at the front and the rest, or none where none is read.
+/// Returns the number at the front and the rest, or None if there is no number.
 pub fn read_u64(bytes: &[u8]) -> Option<(u64, &[u8])>
     ensures read { IfSome result (λ x. ReadsU64 bytes.now x.0 x.1.now) }
     ensures nothing { IfNone result (ReadsNoValue ReadsU64 bytes.now) }

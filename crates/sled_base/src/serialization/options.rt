@@ -1,8 +1,6 @@
-//! Numbers that may be missing.
+//! The encoding of numbers that may be missing.
 
-ghost use Rattle.std.specs.Prelude.{◌≡◌, ◌<◌, ◌^◌};
-ghost use Rattle.std.specs.Int.{w64};
-ghost use Rattle.std.specs.Int.RustNames.{FitsSigned};
+ghost use Rattle.std.specs.Prelude.{◌≡◌, ◌<◌};
 ghost use Rattle.sled_base.specs.Payloads.Options.{number_of, ReadsOption, written_option, CanWriteOption, signed_of, ReadsSigned, written_signed, CanWriteSigned, page_number, ReadsPageNumber, written_page, CanWritePage};
 ghost use Rattle.sled_base.specs.Payloads.Reading.{AsksNever};
 ghost use Rattle.sled_base.specs.Payloads.OptionLaws.{Option-grammar, Signed-grammar, Page-grammar};

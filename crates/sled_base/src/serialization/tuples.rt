@@ -1,4 +1,4 @@
-//! One part after the other.
+//! The encoding of tuples: one part after the other.
 
 ghost use Rattle.std.specs.Prelude.{◌≡◌, ◌<◌, ◌≤◌, ◌^◌, ◌++◌, ◌+◌, ◌||◌, false, length, take, drop};
 ghost use Rattle.sled_base.specs.Payloads.Reading.{ReadsUnit, written_unit, AsksNever, ReadsPair, AsksPair, ReadsTriple, AsksTriple};
@@ -8,7 +8,7 @@ use super::Serialize;
 use crate::types::Error;
 use std::alloc::Global;
 
-/// Writes one value after the other at the front, where there is room for both, and answers how many bytes they took.
+/// Writes one value after the other at the front of `out`, which must have room for both, and returns how many bytes they took.
 pub fn write_both<A: Serialize, B: Serialize>(first: &A, second: &B, out: &mut [u8]) -> usize
     requires can_write_first { A.can_write first.now }
     requires can_write_second { B.can_write second.now }
@@ -21,7 +21,7 @@ pub fn write_both<A: Serialize, B: Serialize>(first: &A, second: &B, out: &mut [
     end + second.serialize_into(&mut out[end..])
 }
 
-/// Writes a value from a place on, where there is room for it, and answers where it ends.
+/// Writes a value to `out` from `start` on, where there must be room for it, and returns where it ends.
 pub fn write_at<T: Serialize>(value: &T, out: &mut [u8], start: usize) -> usize
     requires can_write { T.can_write value.now }
     requires room { start + length (T.written value.now) ≤ length out.old }
@@ -32,7 +32,7 @@ pub fn write_at<T: Serialize>(value: &T, out: &mut [u8], start: usize) -> usize
     start + value.serialize_into(&mut out[start..])
 }
 
-/// Writes one value after the other at the front, where there is room for all, and answers how many bytes they took.
+/// Writes one value after the other at the front of `out`, which must have room for all, and returns how many bytes they took.
 pub fn write_three<A: Serialize, B: Serialize, C: Serialize>(
     first: &A,
     second: &B,
@@ -54,7 +54,7 @@ pub fn write_three<A: Serialize, B: Serialize, C: Serialize>(
     end + write_both(second, third, &mut out[end..])
 }
 
-/// Writes one value after the other from a place on, where there is room for all, and answers where they end.
+/// Writes one value after the other to `out` from `start` on, where there must be room for all, and returns where they end.
 pub fn write_three_at<A: Serialize, B: Serialize, C: Serialize>(
     first: &A,
     second: &B,
@@ -78,7 +78,7 @@ pub fn write_three_at<A: Serialize, B: Serialize, C: Serialize>(
     start + write_three(first, second, third, &mut out[start..])
 }
 
-/// How many bytes the values are written as together, fewer than 2^64.
+/// Returns the number of bytes that the encoded values take together. It must be below 2^64.
 pub fn size_of_three<A: Serialize, B: Serialize, C: Serialize>(
     first: &A,
     second: &B,

@@ -1,4 +1,4 @@
-//! Byte strings that are written one behind the other into a buffer of known size.
+//! Byte strings that are written one after the other into a buffer of known size.
 
 ghost use Rattle.std.specs.Prelude.{◌≡◌, ◌+◌, ◌-◌, ◌<◌, ◌≤◌, ◌^◌, [], ◌∷◌, ◌++◌, length, take, drop, IfOk, OnOk, OnErr};
 ghost use Rattle.sled_base.specs.Payloads.ByteStrings.{written_bytes};
@@ -10,7 +10,7 @@ use crate::serialization::bytes::write_bytes;
 use std::alloc::{AllocError, Global};
 use std::marker::Model;
 
-/// Byte strings that are put one behind the other. Contracts see the list of the strings.
+/// Byte strings that are appended one after the other. Contracts see the list of the strings.
 #[derive(Debug, Drop)]
 pub struct StringsBuilder {
     // the strings as they are written, and room behind them
@@ -33,7 +33,7 @@ impl Model for StringsBuilder {
 }
 
 impl StringsBuilder {
-    /// No strings, with room for so many, of so many bytes as they are written. More are taken too.
+    /// Returns a builder without strings. It has room for `strings` strings that take `bytes` bytes in total when encoded, and accepts more.
     ///
     /// An error means that an allocation failed.
     pub fn with_room(
@@ -53,7 +53,7 @@ impl StringsBuilder {
         })
     }
 
-    /// Puts a string behind the others. An error means that an allocation failed, and leaves the strings.
+    /// Appends a string, which must be shorter than 2^32 bytes. An error means that an allocation failed, and leaves the strings unchanged.
     #[inline(always)]
     pub fn push(&mut self, string: &[u8]) -> Result<(), AllocError>
         requires { length string.now < 2 ^ 32 }
@@ -64,7 +64,7 @@ impl StringsBuilder {
         Ok(())
     }
 
-    /// The strings.
+    /// Returns the strings.
     pub fn build(self) -> Strings
         ensures { result ≡ self }
     {

@@ -1,4 +1,4 @@
-//! Edits of byte strings in one buffer: of its bytes and of the ends beside them.
+//! Edits of byte strings in one buffer: of its bytes, and of the list of where they end.
 
 ghost use Rattle.std.specs.Prelude.{◌≡◌, ◌+◌, ◌-◌, ◌<◌, ◌≤◌, ◌^◌, [], ◌∷◌, ◌++◌, length, map, take, drop, OnOk, OnErr};
 ghost use Rattle.std.specs.List.{AllByRecursion};
@@ -130,6 +130,9 @@ pub(super) fn replace(
     let taken = end - start;
     let size = written_size(string);
     put(bytes, start, end, string)?;
+    if size == taken {
+        return Ok(());
+    }
     move_ends(ends, place, size, taken);
     Ok(())
 }

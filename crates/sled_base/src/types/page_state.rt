@@ -1,16 +1,16 @@
-//! What a log knows of a page.
+//! What a log knows about a page.
 
 ghost use Rattle.std.specs.Prelude.{◌↔◌, IsTrue};
 ghost use Rattle.sled_base.specs.PageStates.{IsFreed};
 
 use super::{DiskPtr, Lsn};
 
-/// A page by the places of its messages: for each its lsn, the pointer to it, and its log size.
+/// The places of a page's messages: for each its LSN, the pointer to it, and its log size.
 #[derive(Debug, Drop, PartialEq)]
 pub enum PageState {
-    /// The page has a content: what put it there, and the links after it.
+    /// The page has content: the message that wrote it, and the links after it.
     Present {
-        /// The message that put it there.
+        /// The message that wrote the content.
         base: (Lsn, DiskPtr, u64),
         /// The links after it, in order.
         frags: Vec<(Lsn, DiskPtr, u64)>,
@@ -20,7 +20,7 @@ pub enum PageState {
 }
 
 impl PageState {
-    /// Whether the page is free.
+    /// Returns whether the page is free.
     pub fn is_free(&self) -> bool
         ensures { IsTrue result ↔ IsFreed self.now }
     {

@@ -170,7 +170,7 @@ fn are_filled(
     Ok(are(strings, list))
 }
 
-// Whether a string is put in at a place, another put in its place, and it is taken out.
+// Whether a string is put in at a place, others put in its place, one of them of the same length as the next, and it is taken out.
 fn is_edited_at(
     strings: &mut Strings,
     list: &mut Vec<Bytes>,
@@ -180,6 +180,7 @@ fn is_edited_at(
     let steps = [
         Step::Insert(place, string),
         Step::Replace(place, b"abc"),
+        Step::Replace(place, b"cab"),
         Step::Replace(place, string),
         Step::Remove(place),
     ];

@@ -10,7 +10,7 @@ use sled_handle::status::CLOSED;
 use sled_handle::through::batches as through;
 use std::alloc::Global;
 
-/// Opens a batch, of which a crash leaves all or nothing once it is sealed.
+/// Opens a batch: once it is sealed, a crash leaves all of it or nothing.
 #[unsafe(no_mangle)]
 pub extern "C" fn dilluvas_raw_pin(alloc: Global, handle: &mut Handle) -> u32
     ensures { Through handle.old.store handle.new.store result ⊤

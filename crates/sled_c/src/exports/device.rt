@@ -9,7 +9,7 @@ use sled_handle::through::device as through;
 use sled_handle::{FileTask, Handle};
 use std::alloc::Global;
 
-/// Writes what the program does next to the file, and the bytes of a write to the front of the buffer.
+/// Writes the next task that the program has to do on the file, and the bytes of a write to the front of the buffer.
 #[unsafe(no_mangle)]
 pub extern "C" fn dilluvas_raw_next_task(
     alloc: Global,
@@ -25,7 +25,7 @@ pub extern "C" fn dilluvas_raw_next_task(
     behind!(alloc, handle, store => through::next_task(store, task, buffer))
 }
 
-/// Writes the place of the bytes that are needed and how many they are, or 0 where none are.
+/// Writes the place and the number of the bytes of the file that are needed, or 0 if none are.
 #[unsafe(no_mangle)]
 pub extern "C" fn dilluvas_raw_needs(
     alloc: Global,
@@ -53,7 +53,7 @@ pub extern "C" fn dilluvas_raw_hand_in(
     behind!(alloc, handle, store => through::hand_in(store, at, bytes))
 }
 
-/// The bytes that are needed couldn't be read: they aren't any more, and what was handed in is let go.
+/// Drops what was needed and what was handed in. The program calls it if the bytes that are needed couldn't be read.
 #[unsafe(no_mangle)]
 pub extern "C" fn dilluvas_raw_forget(alloc: Global, handle: &mut Handle) -> u32
     ensures { Tells Forgets handle.old.store handle.new.store result }
@@ -66,7 +66,7 @@ pub extern "C" fn dilluvas_raw_forget(alloc: Global, handle: &mut Handle) -> u32
     OK
 }
 
-/// A write or a sync failed: every later call over the file answers so.
+/// Records that a write or a sync failed: every later call over the file returns `WRITE`.
 #[unsafe(no_mangle)]
 pub extern "C" fn dilluvas_raw_failed(alloc: Global, handle: &mut Handle) -> u32
     ensures { Tells Fails handle.old.store handle.new.store result }

@@ -5,8 +5,8 @@ ghost use Rattle.sled_handle.specs.FileOpenings.{OpenFile, OpenLog};
 use sled_handle::{FileSettings, Handle};
 use std::alloc::Global;
 
-/// Opens a cache over a file of so many bytes behind a closed handle, once the settings are found to be right. Where bytes were needed it
-/// goes on, with what was begun.
+/// Opens a cache over a file of `len` bytes in a closed handle, once the settings are found to be valid. If bytes of the file are needed, the
+/// repeated call continues the opening.
 #[unsafe(no_mangle)]
 pub extern "C" fn dilluvas_raw_open_file(
     alloc: Global,
@@ -19,8 +19,8 @@ pub extern "C" fn dilluvas_raw_open_file(
     handle.open_file(alloc, *settings, len)
 }
 
-/// Makes a new log in a file of no bytes behind a closed handle, once the settings are found to be right, and opens no cache over it. Where
-/// bytes were needed it goes on, with what was begun, as it does with an opening that was begun, until its log is read.
+/// Makes a new log in an empty file, in a closed handle, once the settings are found to be valid, and opens no cache over it. If bytes of the file
+/// are needed, the repeated call continues, until the log is read. It continues an opening that was begun in the same way.
 #[unsafe(no_mangle)]
 pub extern "C" fn dilluvas_raw_new_log(
     alloc: Global,

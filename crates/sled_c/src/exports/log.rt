@@ -1,4 +1,4 @@
-//! Generated ids, and what is asked of the whole log.
+//! Generated ids, and calls on the whole log.
 
 ghost use Rattle.std.specs.Prelude.{◌≡◌};
 ghost use Rattle.sled_handle.specs.Handles.{Through, ThroughMemory};
@@ -10,7 +10,7 @@ use sled_handle::through::log as through;
 use sled_pagecache::{Log, MemLog};
 use std::alloc::Global;
 
-/// Writes an id that was never given.
+/// Writes an id that was never returned before.
 #[unsafe(no_mangle)]
 pub extern "C" fn dilluvas_raw_generate_id(alloc: Global, handle: &mut Handle, id: &mut u64) -> u32
     ensures { Through handle.old.store handle.new.store result (id.new ≡ id.old)
@@ -19,7 +19,7 @@ pub extern "C" fn dilluvas_raw_generate_id(alloc: Global, handle: &mut Handle, i
     behind!(alloc, handle, store => through::generate_id(store, id))
 }
 
-/// Makes all that is pending durable, and writes how many bytes that wrote.
+/// Makes everything pending durable, and writes how many bytes that wrote.
 #[unsafe(no_mangle)]
 pub extern "C" fn dilluvas_raw_flush(alloc: Global, handle: &mut Handle, written: &mut usize) -> u32
     ensures { Through handle.old.store handle.new.store result (written.new ≡ written.old)
@@ -37,7 +37,7 @@ pub extern "C" fn dilluvas_raw_size(alloc: Global, handle: &mut Handle, bytes: &
     behind!(alloc, handle, store => through::size(store, bytes))
 }
 
-/// Writes how many bytes of the log the messages take that make the pages, at most `u64::MAX`.
+/// Writes how many bytes of the log are taken by the messages that make the pages, at most `u64::MAX`.
 #[unsafe(no_mangle)]
 pub extern "C" fn dilluvas_raw_live(alloc: Global, handle: &mut Handle, bytes: &mut u64) -> u32
     ensures { Through handle.old.store handle.new.store result (bytes.new ≡ bytes.old)
@@ -73,7 +73,7 @@ pub extern "C" fn dilluvas_raw_gc(alloc: Global, handle: &mut Handle, moved: &mu
     behind!(alloc, handle, store => through::gc(store, moved))
 }
 
-/// Writes whether the log had the cache's own pages as it was opened.
+/// Writes whether the log had the cache's own pages when it was opened.
 #[unsafe(no_mangle)]
 pub extern "C" fn dilluvas_raw_was_recovered(
     alloc: Global,

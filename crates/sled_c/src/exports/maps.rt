@@ -10,7 +10,7 @@ use sled_handle::through::maps as through;
 use sled_handle::{Bounds, FoundPiece, Handle};
 use std::alloc::Global;
 
-/// Writes the value of a key, and how many bytes it has.
+/// Writes the value of a key, and its length.
 #[unsafe(no_mangle)]
 pub extern "C" fn dilluvas_raw_map_get(
     alloc: Global,
@@ -45,7 +45,7 @@ pub extern "C" fn dilluvas_raw_map_set(
     behind!(alloc, handle, store => through::set(alloc, store, name, key, value, had))
 }
 
-/// Takes a key out, and writes whether it had a value before.
+/// Removes a key, and writes whether it had a value.
 #[unsafe(no_mangle)]
 pub extern "C" fn dilluvas_raw_map_del(
     alloc: Global,
@@ -60,7 +60,8 @@ pub extern "C" fn dilluvas_raw_map_del(
     behind!(alloc, handle, store => through::del(store, name, key, had))
 }
 
-/// Sets the value of a key, or takes the key out, where it has the old value, or none.
+/// Sets the value of a key to `new`, or removes the key if `has_new` is false, provided that its value is `old`, or that it has none if `has_old` is
+/// false.
 #[unsafe(no_mangle)]
 pub extern "C" fn dilluvas_raw_map_cas(
     alloc: Global,
@@ -80,7 +81,7 @@ pub extern "C" fn dilluvas_raw_map_cas(
     behind!(alloc, handle, store => through::cas(alloc, store, name, key, old, new))
 }
 
-/// Writes the nearest pair on a side of a key, or at an end of the map, and how many bytes it takes.
+/// Writes the nearest pair on a side of a key, or at an end of the map, and its length.
 #[unsafe(no_mangle)]
 pub extern "C" fn dilluvas_raw_map_next(
     alloc: Global,
@@ -100,7 +101,7 @@ pub extern "C" fn dilluvas_raw_map_next(
     behind!(alloc, handle, store => through::next(alloc, store, name, side, bound, buffer, needed))
 }
 
-/// Writes the first pairs within the bounds, those that one leaf has, and behind them the key from which on the others are.
+/// Writes the first pairs between the bounds, those of one leaf, followed by the key at which the others begin.
 #[unsafe(no_mangle)]
 pub extern "C" fn dilluvas_raw_map_range(
     alloc: Global,
@@ -126,7 +127,7 @@ pub extern "C" fn dilluvas_raw_map_range(
     behind!(alloc, handle, store => through::range(alloc, store, name, bounds, buffer, piece))
 }
 
-/// The same without the pairs.
+/// Does the same without the pairs.
 #[unsafe(no_mangle)]
 pub extern "C" fn dilluvas_raw_map_count(
     alloc: Global,
@@ -152,7 +153,7 @@ pub extern "C" fn dilluvas_raw_map_count(
     behind!(alloc, handle, store => through::count(alloc, store, name, bounds, buffer, piece))
 }
 
-/// Takes away the map of a name with all that it has, and writes whether there was one.
+/// Drops the map of a name with all its pairs, and writes whether there was one.
 #[unsafe(no_mangle)]
 pub extern "C" fn dilluvas_raw_map_drop(
     alloc: Global,
@@ -166,7 +167,7 @@ pub extern "C" fn dilluvas_raw_map_drop(
     behind!(alloc, handle, store => through::drop_map(alloc, store, name, had))
 }
 
-/// Writes the first name of a map behind another one, or the first of all.
+/// Writes the first name of a map after another one, or the first of all.
 #[unsafe(no_mangle)]
 pub extern "C" fn dilluvas_raw_map_name(
     alloc: Global,

@@ -10,7 +10,7 @@ use sled_handle::status::text_of;
 use sled_handle::{Handle, Settings};
 use std::alloc::Global;
 
-/// Opens a cache over a new log in memory behind a closed handle.
+/// Opens a cache over a new log in memory in a closed handle.
 #[unsafe(no_mangle)]
 pub extern "C" fn dilluvas_raw_open_memory(
     alloc: Global,
@@ -22,7 +22,7 @@ pub extern "C" fn dilluvas_raw_open_memory(
     handle.open_memory(alloc, *settings)
 }
 
-/// Closes the cache behind a handle, or the file that is being opened. Nothing is flushed, so an open batch is lost.
+/// Closes a handle, and drops its cache, or the file that is being opened. Nothing is flushed, so an open batch is lost.
 #[unsafe(no_mangle)]
 pub extern "C" fn dilluvas_raw_close(alloc: Global, handle: &mut Handle) -> u32
     ensures { CloseHandle handle.old.store handle.new.store result }
@@ -30,7 +30,7 @@ pub extern "C" fn dilluvas_raw_close(alloc: Global, handle: &mut Handle) -> u32
     handle.close(alloc)
 }
 
-/// Writes the text of a status, without a zero behind it, and how many bytes it has.
+/// Writes the text of a status, without a terminating zero, and its length.
 #[unsafe(no_mangle)]
 pub extern "C" fn dilluvas_raw_text(status: u32, buffer: &mut [u8], needed: &mut usize) -> u32
     ensures { (text : Bytes) × TellsBytes text result needed.new buffer.old buffer.new }

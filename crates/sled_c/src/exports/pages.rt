@@ -1,4 +1,4 @@
-//! Making, reading, changing and freeing a page.
+//! Allocating, reading, changing and freeing a page.
 
 ghost use Rattle.std.specs.Prelude.{◌≡◌};
 ghost use Rattle.sled_handle.specs.Handles.{Through};
@@ -12,7 +12,7 @@ use sled_handle::through::pages as through;
 use sled_handle::{Found, Handle};
 use std::alloc::Global;
 
-/// Puts a leaf of the pairs on a page, and writes which page and its stamp.
+/// Allocates a page with a leaf of the pairs, and writes its number and its stamp.
 #[unsafe(no_mangle)]
 pub extern "C" fn dilluvas_raw_allocate(
     alloc: Global,
@@ -46,7 +46,7 @@ pub extern "C" fn dilluvas_raw_get(
     behind!(alloc, handle, store => through::get(store, page, found, buffer))
 }
 
-/// Writes the value of one key of a leaf, and the stamp of the page.
+/// Writes the value of a key of a leaf, its length, and the stamp of the page.
 #[unsafe(no_mangle)]
 pub extern "C" fn dilluvas_raw_value(
     alloc: Global,
@@ -65,7 +65,7 @@ pub extern "C" fn dilluvas_raw_value(
     behind!(alloc, handle, store => through::value(store, page, key, stamp, buffer, needed))
 }
 
-/// Maps a key of a leaf to a value, where the page is still at the stamp, and writes the stamp that it has now.
+/// Sets a key of a leaf to a value, if the page has the expected stamp, and writes the stamp that it has now.
 #[unsafe(no_mangle)]
 pub extern "C" fn dilluvas_raw_set(
     alloc: Global,
@@ -82,7 +82,7 @@ pub extern "C" fn dilluvas_raw_set(
     behind!(alloc, handle, store => through::set(alloc, store, page, stamp, key, value))
 }
 
-/// Takes a key out of a leaf, likewise.
+/// Removes a key from a leaf, likewise.
 #[unsafe(no_mangle)]
 pub extern "C" fn dilluvas_raw_del(
     alloc: Global,
@@ -97,7 +97,7 @@ pub extern "C" fn dilluvas_raw_del(
     behind!(alloc, handle, store => through::del(alloc, store, page, stamp, key))
 }
 
-/// Puts a leaf of the pairs on a page in place of what it held, likewise.
+/// Replaces the contents of a page with a leaf of the pairs, likewise.
 #[unsafe(no_mangle)]
 pub extern "C" fn dilluvas_raw_replace(
     alloc: Global,

@@ -23,7 +23,7 @@ pub extern "C" fn dilluvas_raw_root(
     behind!(alloc, handle, store => through::root(store, name, page))
 }
 
-/// Gives a name another root, where page 0 stands for none.
+/// Gives a name the root `next`, if its root is `root`. Page 0 means no root.
 #[unsafe(no_mangle)]
 pub extern "C" fn dilluvas_raw_cas_root(
     alloc: Global,
@@ -38,7 +38,7 @@ pub extern "C" fn dilluvas_raw_cas_root(
     behind!(alloc, handle, store => through::cas_root(store, name, root, next))
 }
 
-/// Writes the root page of a name. A name that has none is given an index over an empty leaf.
+/// Writes the root page of a name. A name that has none gets an index over an empty leaf.
 #[unsafe(no_mangle)]
 pub extern "C" fn dilluvas_raw_open_tree(
     alloc: Global,

@@ -1,30 +1,33 @@
-//! The file of a program that reads and writes for a staged disk.
+//! The file that the caller of a staged disk reads and writes.
 
 ghost use Rattle.std.specs.Prelude.{◌≡◌, ◌<◌, ◌++◌, ℕ, List, [], ◌∷◌, false, get_or, length, take, drop, IsTrue};
 ghost use Rattle.sled_disk.specs.CallersFile.{writes_of, held_after};
 ghost use Rattle.sled_disk.specs.Journal.{DiskCall, Sync, Image, all_synced, after_calls, MayLeave};
 
-/// The file of the caller of a `StagedDisk`, as a value that is told each task that the caller is handed, when it is. `tells` is that the
-/// caller keeps its word, which is three things. It does each task that it is handed, in order, before it hands in bytes, and hands in the
-/// bytes that its file has then. What it was handed to write is there from then on, and nothing else changes; until a sync a crash may leave
-/// any bytes in that range, or what it may have left before, and after one what is there. And nobody else writes to the file or cuts it.
+/// The file of a `StagedDisk`'s caller, as a value. Each task is done to this value at the moment when the task is handed out to the
+/// caller.
 ///
-/// Each call answers whether the task was done. Where it wasn't, the file may be as one that a crash left during the task: so the caller says
-/// that it failed, and no other task comes.
+/// `tells` is the premise that the caller keeps its word, which is three things. It does all tasks that it is handed, in order, before it
+/// hands in bytes, and it hands in the bytes that its file has then. What it was handed to write is there from then on, and nothing else
+/// changes; until a sync a crash may leave any bytes in that range, or what it might have left before, and after a sync it leaves what is
+/// there. Nobody else writes to the file or truncates it.
+///
+/// Each call returns whether the task was done. If it was not, the file may be as a crash during the task could have left it. The staged
+/// disk then behaves as after `StagedDisk::fail`, and hands out no further task.
 pub trait CallersFile: Drop {
-    /// That the caller keeps its word.
+    /// The premise that the caller keeps its word.
     ghost tells: { Type 0 };
 
-    /// That a task may fail.
+    /// The premise that a task may fail.
     ghost may_fail: { Type 0 };
 
-    /// What the file was at first: the bytes that a read gave, and what a crash might have left.
+    /// What the file was at first: the bytes that reads returned, and what a crash might have left.
     ghost first: { Self → Image };
 
-    /// The writes, byte by byte, and the syncs that it has done since.
+    /// The writes, byte by byte, and the syncs that were done since.
     ghost done: { Self → List DiskCall };
 
-    /// Writes over what is there, and past the end.
+    /// Writes the bytes at place `at`, over what is there and past the end. Returns whether it did.
     fn write(&mut self, at: u64, bytes: &[u8]) -> bool
         ensures done { tells → IsTrue result
             → done self.new ≡ done self.old ++ writes_of at bytes.now }
@@ -32,7 +35,7 @@ pub trait CallersFile: Drop {
         ensures first { tells → first self.new ≡ first self.old }
         ensures fails { result ≡ false → may_fail };
 
-    /// Writes bytes that are there once more. None changes, and a byte isn't torn.
+    /// Writes bytes again that are there already. None of them changes, and a byte is never torn. Returns whether it did.
     fn write_again(&mut self, at: u64, bytes: &[u8]) -> bool
         requires there { tells → take (length bytes.now)
             (drop at (held_after (first self.old) (done self.old))) ≡ bytes.now }
@@ -40,24 +43,24 @@ pub trait CallersFile: Drop {
         ensures first { tells → first self.new ≡ first self.old }
         ensures fails { result ≡ false → may_fail };
 
-    /// Makes durable what was written.
+    /// Makes durable what was written. Returns whether it did.
     fn sync(&mut self) -> bool
         ensures done { tells → IsTrue result → done self.new ≡ done self.old ++ Sync ∷ [] }
         ensures kept { tells → result ≡ false → done self.new ≡ done self.old }
         ensures first { tells → first self.new ≡ first self.old }
         ensures fails { result ≡ false → may_fail };
 
-    /// Its bytes are bytes.
+    /// Each byte is below 256.
     ghost are_bytes: { (file : Self) (i : ℕ) → tells
         → get_or (held_after (first file) (done file)) i 0 < 256 };
 
-    /// What a read gives is what a crash may leave.
+    /// What a read returns is a crash state.
     ghost seen_now: { (file : Self) → tells → MayLeave (after_calls (first file) (done file))
         (held_after (first file) (done file)) };
 }
 
-/// A file that is out of sight: whether its caller keeps its word is no matter of proof, so this is the one member that promises nothing. It
-/// takes no memory and no time.
+/// A caller's file that is outside of the program. Whether its caller keeps its word cannot be proved, so here `tells` is false, and
+/// nothing is promised about bytes. It uses no memory and no time.
 #[derive(Drop)]
 pub struct UnseenFile;
 

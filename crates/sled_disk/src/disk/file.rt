@@ -1,9 +1,8 @@
-//! A disk over a file of the system.
+//! A disk over a file of the operating system.
 
-ghost use Rattle.std.specs.Prelude.{◌≡◌, ◌⊎◌, ◌+◌, ◌≤◌, ◌<◌, ◌^◌, ℕ, [], List, length, take, drop, get_or, false, true, IsTrue, IfOk, IfErr, OnOk};
-ghost use Rattle.sled_log.specs.Calls.{Counts, HasCause, one_more};
-ghost use Rattle.sled_disk.specs.Disk.{Only, Follows, LeavesNoMore, Torn, overlaid, Elapses};
-ghost use Rattle.sled_log.specs.declared.log.LogError.TheVariants.{Memory, ReadFault, WriteFault};
+ghost use Rattle.std.specs.Prelude.{◌≡◌, ◌+◌, ◌≤◌, ◌<◌, ◌^◌, length, false, true, IsTrue};
+ghost use Rattle.sled_disk.specs.Disk.{Follows, Torn, overlaid, Elapses};
+ghost use Rattle.sled_log.specs.declared.log.LogError.TheVariants.{ReadFault, WriteFault};
 
 use super::Disk;
 use super::journal::count;
@@ -11,12 +10,12 @@ use super::system::SystemFile;
 use sled_log::LogError;
 use std::fs::File;
 
-/// A disk over a file of the system, which tells its bytes where the file does: it is a disk as the trait describes it, if the file
-/// is one as `SystemFile` describes it.
+/// A disk over a file of the operating system. It tells its bytes if the file does: it meets the contract of `Disk` if the file meets that
+/// of `SystemFile`.
 ///
-/// A read past the end fails, and a write that begins past the end does, and leaves no hole. After a write or a sync that failed no later one
-/// is made, and each is answered with WriteFault: the system may have dropped what wasn't durable, and answer Ok to the next sync. What was
-/// durable is there when the file is opened again.
+/// A read past the end fails. So does a write that begins past the end, which leaves no hole. After a write or a sync has failed, no later
+/// one is made, and each returns WriteFault: the system may have dropped what was not durable, and may still return Ok from the next sync.
+/// What was durable is there when the file is opened again.
 #[derive(Drop)]
 pub struct FileDisk<F: SystemFile = File> {
     file: F,
@@ -30,7 +29,7 @@ pub struct FileDisk<F: SystemFile = File> {
 }
 
 impl<F: SystemFile> FileDisk<F> {
-    /// The disk over a file that no write or sync failed on.
+    /// Returns a disk over a file on which no write or sync has failed.
     pub fn new(file: F) -> FileDisk<F>
         requires sound { F.tells → F.has_failed file ≡ false }
         ensures file { result.file ≡ file }
@@ -40,7 +39,7 @@ impl<F: SystemFile> FileDisk<F> {
         FileDisk::within(file, u64::MAX)
     }
 
-    /// The same, on which no write is made that ends behind that place: it is a WriteFault.
+    /// Returns such a disk that makes no write which ends after place `limit`, and returns WriteFault instead.
     pub(super) fn within(file: F, limit: u64) -> FileDisk<F>
         requires sound { F.tells → F.has_failed file ≡ false }
         ensures file { result.file ≡ file }
@@ -57,7 +56,7 @@ impl<F: SystemFile> FileDisk<F> {
         }
     }
 
-    /// Ends the disk, and makes nothing durable.
+    /// Closes the disk and returns its file. It makes nothing durable.
     pub fn into_file(self) -> F
         ensures { result ≡ self.file }
     {

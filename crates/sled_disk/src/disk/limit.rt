@@ -1,4 +1,4 @@
-//! How long a file the process may write.
+//! How large a file the process may write.
 
 use std::fs::{File, Files};
 use std::os::unix::fs::FileExt;
@@ -8,7 +8,8 @@ const LIMITS: &str = "/proc/self/limits";
 
 const NAME: &[u8] = b"Max file size";
 
-/// How many bytes a file may have that the process writes, as far as the system tells it. A write that passes it ends the process.
+/// Returns how many bytes a file may have that the process writes, or `u64::MAX` if the system does not report a limit. A write that passes
+/// the limit ends the process.
 pub(super) fn size_limit<R: Files<File = File>>(files: &R) -> u64 {
     let mut text = [0; 1024];
     let Ok(file) = File::open(files, LIMITS) else {

@@ -1,11 +1,11 @@
-//! The disk in memory.
+//! A disk in memory.
 
-ghost use Rattle.std.specs.Prelude.{◌^◌, ⊤, ◌≡◌, ◌≤◌, ◌<◌, ◌+◌, ◌-◌, ◌&&◌, not, Bool, false, nat_eq, ℕ, [], ◌++◌, ◌∷◌, length, take, drop, get_or, true, IsTrue, is_ok, min, vec_len, vec_capacity, IfOk, IfErr, IsOk, OnOk, OnErr};
-ghost use Rattle.sled_log.specs.Calls.{Counts, HasCause, one_more};
+ghost use Rattle.std.specs.Prelude.{◌^◌, ⊤, ◌≡◌, ◌≤◌, ◌<◌, ◌+◌, ◌-◌, false, nat_eq, ℕ, [], ◌++◌, ◌∷◌, length, take, drop, get_or, IsTrue, is_ok, min, vec_len, vec_capacity, IfOk, IfErr, IsOk, OnOk, OnErr};
+ghost use Rattle.sled_log.specs.Calls.{HasCause, one_more};
 ghost use Rattle.sled_disk.specs.Disk.{overlaid, Torn, Follows, LeavesEach, LeavesNoMore, Only, Elapses};
-ghost use Rattle.sled_disk.specs.Journal.{Write, Sync, are_within, calls_in, call_in, all_synced, after_calls, MayLeave, WasLeft, left_of};
+ghost use Rattle.sled_disk.specs.Journal.{Write, Sync, are_within, calls_in, all_synced, after_calls, MayLeave, WasLeft, left_of};
 ghost use Rattle.sled_disk.specs.JournalLaws.{left_by_now, only_by_now, left_earlier, seen_left};
-ghost use Rattle.sled_log.specs.declared.log.LogError.TheVariants.{Memory, ReadFault, WriteFault};
+ghost use Rattle.sled_log.specs.declared.log.LogError.TheVariants.{ReadFault, WriteFault};
 
 mod files;
 
@@ -14,11 +14,12 @@ use super::journal::{Call, add, copy, count, overlay, replay};
 use sled_log::LogError;
 use std::alloc::{AllocError, Global};
 
-/// A disk in memory, for tests of crashes. It keeps what it held at first and a journal of its writes and syncs, so the crash states
-/// of each moment are known from what is stored, and `stop` gives the disk as a crash left it.
+/// A disk in memory, for tests of crashes. It stores what it held at first and a journal of its writes and syncs. So the crash states of
+/// every moment are known from what is stored, and `stop` returns the disk that a crash leaves.
 ///
-/// A crash tears each range that isn't synced: it may leave any bytes there, and past the old end. A write or a sync that fails does
-/// nothing. All memory is taken when the disk is made: it has room for so many written bytes, and for so many writes and syncs.
+/// A crash tears each range that is not synced: it may leave any bytes there, and any length between the old end and that of the range. A
+/// write or a sync that fails does nothing. All memory is allocated when the disk is made, which fixes how many bytes may be written, and
+/// how many writes and syncs may be made.
 #[derive(Drop)]
 pub struct MemDisk {
     // what it held at first, all of it durable
@@ -49,9 +50,10 @@ pub struct MemDisk {
 impl MemDisk {
     ghost use Rattle.sled_disk.specs.DiskMemory.{bytes_of, calls_of, clock_of, image_at, might_have_left, counts_of, room_of, faults_of};
 
-    /// An empty disk. A write or a sync fails that would make more than `limit` written bytes, or more than `limit` writes and syncs.
+    /// Returns an empty disk. A write fails if it would bring the bytes written above `limit`, and a write or a sync fails if it would
+    /// bring the number of writes and syncs above `limit`. AllocError: an allocation failed.
     ///
-    /// It takes 3 bytes for each byte that may be written, and 32 for each write or sync.
+    /// The disk takes 3 bytes of memory for each byte that may be written, and 32 for each write or sync.
     pub fn new(alloc: Global, limit: usize) -> Result<MemDisk, AllocError>
         ensures bytes { IfOk result (λ disk. bytes_of disk ≡ []) }
         ensures moment { IfOk result (λ disk. clock_of disk ≡ 0) }
@@ -75,14 +77,14 @@ impl MemDisk {
         })
     }
 
-    /// The bytes that a read gives.
+    /// Returns the bytes that reads return.
     pub fn bytes(&self) -> &[u8]
         ensures { result.now ≡ bytes_of self.now }
     {
         &self.bytes
     }
 
-    /// How many writes and syncs it made.
+    /// Returns how many writes and syncs were made.
     pub fn calls(&self) -> usize
         ensures calls { result ≡ clock_of self.now }
         ensures small { result < 2 ^ 63 }
@@ -90,23 +92,25 @@ impl MemDisk {
         self.calls.len()
     }
 
-    /// Lets the n-th read from now fail, and no other.
+    /// Makes the `n`-th read from now fail, and no other. If `n` is 0, none fails.
     pub fn fail_read(&mut self, n: u64)
         ensures { self.new ≡ record self.old { read_to_fail = n } }
     {
         self.read_to_fail = n;
     }
 
-    /// Lets the n-th write or sync from now fail, and no other.
+    /// Makes the `n`-th write or sync from now fail, and no other. If `n` is 0, none fails.
     pub fn fail_write(&mut self, n: u64)
         ensures { self.new ≡ record self.old { write_to_fail = n } }
     {
         self.write_to_fail = n;
     }
 
-    /// A crash before its n-th write or sync, of which the first is 1: the disk that it leaves, which is new and has counted
-    /// nothing. Unsynced ranges are as they were written or, where one is given, of that byte. What it may still write is what
-    /// it might have written.
+    /// Returns the disk that a crash leaves before the `n`-th write or sync, or now if fewer were made. The first one is 1, and 0 means the
+    /// same.
+    ///
+    /// Ranges that were not synced hold what was written or, if `fill` is given, that byte throughout. The disk is new: its counts are 0
+    /// and none of its calls is set to fail. It may still write as much as this one could.
     pub fn stop(self, n: usize, fill: Option<u8>) -> MemDisk
         ensures bytes { bytes_of result ≡ left_of fill (image_at (n - 1) self) }
         ensures may { MayLeave (image_at (n - 1) self) (bytes_of result) }

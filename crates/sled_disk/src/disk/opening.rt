@@ -1,4 +1,4 @@
-//! Opening a file of the system.
+//! Opening a file of the operating system.
 
 ghost use Rattle.std.specs.Prelude.{◌≡◌, ◌⊎◌, false, true, IfOk, IfErr};
 ghost use Rattle.std.specs.Fs.{asks_append, asks_create, asks_read, asks_truncate, asks_write};
@@ -19,15 +19,17 @@ use std::{fs, io};
 const MOST_TRIES: u32 = 100;
 
 impl FileDisk<File> {
-    /// Opens the file of a path, which is made where it is absent, and locks it: one process may have it open at a time.
+    /// Opens the file at a path, creates it if there is none, and locks it: only one process can have it open at a time.
     ///
-    /// Behind the lock the path still leads to that file, and its name is durable. What the file holds is neither cut nor written. No write
-    /// is made that ends behind the size to which the process may write files (RLIMIT_FSIZE), where `/proc` tells it: a system ends a
-    /// process that tries.
+    /// Once it is locked, the path still leads to that file, and the file's directory (for a link, that of its target) has been synced, so
+    /// its name is durable. The sync is skipped if this process may not read the directory, or if the system cannot sync directories. The
+    /// file is neither truncated nor written. The disk makes no write that ends after the size to which the process may write files
+    /// (RLIMIT_FSIZE), if `/proc` reports it: a system ends a process that tries.
     ///
-    /// ReadFault: the file can't be opened for reading and writing, or is none (a folder, a device, a link that leads to nothing), or has no
-    /// bytes and is none that a disk makes, as those of `/proc`; it is open elsewhere; or its folder couldn't be synced, but for one that
-    /// this process may not read. Memory: out of memory, where the path is a link.
+    /// ReadFault: the file cannot be opened for reading and writing; it is not a regular file (a directory, a device, a link that leads to
+    /// nothing); it reports no bytes but has some or cannot be synced, as files of `/proc`; it is open elsewhere; another file took its
+    /// place at each of 100 tries; or its directory could not be synced. Memory: an allocation failed, which can only happen if the path is
+    /// a link.
     pub fn open<R: Files<File = File> + Alloc>(
         rt: &R,
         path: &str,

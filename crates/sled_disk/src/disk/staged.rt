@@ -1,11 +1,11 @@
 //! A disk whose caller does the reading and writing.
 
 ghost use Rattle.std.specs.Prelude.{◌≡◌, ◌≤◌, ◌<◌, ◌+◌, ◌^◌, ◌⊎◌, ◌++◌, ℕ, List, [], ◌∷◌, Some, false, true, length, take, drop, max, IfOk, IfErr, IfSome, IfNone, OnOk, OnErr, IsOk};
-ghost use Rattle.sled_log.specs.Calls.{Counts, HasCause, one_more};
+ghost use Rattle.sled_log.specs.Calls.{HasCause, one_more};
 ghost use Rattle.sled_disk.specs.CallersFile.{IsSettled, bytewise, held_after};
 ghost use Rattle.sled_disk.specs.CallersFileLaws.{bytes-tasks, leaves-tasks};
-ghost use Rattle.sled_disk.specs.HandedIn.{StandOver, seen_in};
-ghost use Rattle.sled_disk.specs.HandedInLaws.{stand_over-prop};
+ghost use Rattle.sled_disk.specs.StagedReads.{StandOver, seen_in};
+ghost use Rattle.sled_disk.specs.StagedReadsLaws.{stand_over-prop};
 ghost use Rattle.sled_disk.specs.Journal.{after_calls, MayLeave, WasLeft};
 ghost use Rattle.sled_disk.specs.JournalLaws.{left_by_now, only_by_now, left_earlier};
 ghost use Rattle.sled_disk.specs.Tasks.{tasks_in};
@@ -25,20 +25,20 @@ mod pieces;
 mod stage;
 mod tasks;
 
-/// A disk that does no reading and writing of its own: its caller does both, between the calls of what stands on it.
+/// A disk that reads and writes nothing itself. Its caller does both, between the calls of the log or cache over the disk.
 ///
-/// Writes and syncs wait, in order, and the caller works them off by `next_task` before it takes a call's answer as given; a sync with
-/// nothing written since the last one waits for nobody. A read gives bytes that were handed in. Any other is a ReadFault, and `needs`
-/// says what it wanted: then the caller works off what waits, reads those bytes, hands them in by `hand_in` and makes the call again.
-/// Once it has an answer it lets them go by `forget`. Where a task fails it says so by `fail`.
+/// Writes and syncs are queued, in order. The caller fetches them with `next_task` and does them before it relies on the result of a call.
+/// A sync is not queued if nothing was written since the last one. A read returns bytes that were handed in; otherwise it fails with
+/// ReadFault, and `needs` returns their place and number. The caller then does all queued tasks, reads those bytes, hands them in with
+/// `hand_in`, and repeats the call. Once it has a result, it drops the bytes with `forget`. If a task fails, it calls `fail`.
 ///
-/// It tells its bytes where the caller's file does, which is told each task as it is handed out (`CallersFile`): a read gives what the file
-/// will hold once all that waits is done, and a crash leaves then what it may leave of the file. Of a file that is out of sight
-/// (`UnseenFile`) that is the caller's word, and a log is told nothing of it: as of a file of the system, all that it knows is why a call
-/// fails, and the counts. The length is what the disk was told when it was made, and what is written past it.
+/// The disk tells its bytes if the caller's file does, to which each task is applied when it is handed out (`CallersFile`). A read then
+/// returns what the file will hold once all queued tasks are done, and a crash leaves what it may leave of that file. Over an `UnseenFile`
+/// this is the caller's responsibility and not part of the contract: as over a file of the system, a log then only knows why a call fails,
+/// and the counts. The length is the one given when the disk was made, or more after writes past it.
 ///
-/// `make_room` takes the memory for the next four writes, which is kept for later ones. A write for which no room was made takes its own,
-/// and is a WriteFault where there is none; nothing of it waits then, and the disk goes on. A sync takes no memory.
+/// `make_room` allocates memory for the next four writes, and keeps it for later ones. A write without reserved room allocates its own. If
+/// that fails, it returns WriteFault, none of it is queued, and the disk remains usable. A sync allocates nothing.
 #[derive(Drop)]
 pub struct StagedDisk<F: CallersFile = UnseenFile> {
     file: F,
@@ -54,7 +54,7 @@ pub struct StagedDisk<F: CallersFile = UnseenFile> {
 impl StagedDisk<UnseenFile> {
     ghost use Rattle.sled_disk.specs.Staged.{IsBegun};
 
-    /// The disk of a file that has so many bytes, and is out of sight: `over` such a file.
+    /// Returns a staged disk over an `UnseenFile` of `len` bytes, as `over` does.
     pub fn new(alloc: Global, len: u64) -> StagedDisk<UnseenFile>
         ensures { IsBegun len result }
     {
@@ -63,11 +63,11 @@ impl StagedDisk<UnseenFile> {
 }
 
 impl<F: CallersFile> StagedDisk<F> {
-    ghost use Rattle.sled_disk.specs.HandedIn.{AddsTask, StandsAt};
+    ghost use Rattle.sled_disk.specs.StagedReads.{AddsTask, StandsAt};
     ghost use Rattle.sled_disk.specs.Staged.{counts_of, failed, holds, Fails, Forgets, HandsOut, HandsOver, IsBegun, IsOver, StaysOver, StaysTheSame, StillWaits, TakesIn};
 
-    /// The disk of a caller's file, which has so many bytes. It takes no memory. What the file holds is not known to be durable, so the first
-    /// sync is a task too.
+    /// Returns a staged disk over the caller's file, which has `len` bytes. It allocates nothing. What the file holds is not known to be
+    /// durable, so the first sync is queued even if nothing was written before it.
     pub fn over(alloc: Global, file: F, len: u64) -> StagedDisk<F>
         requires { F.tells → len ≡ length (held_after (F.first file) (F.done file)) }
         ensures begun { IsBegun len result }
@@ -83,26 +83,26 @@ impl<F: CallersFile> StagedDisk<F> {
         }
     }
 
-    /// The caller's file.
+    /// Returns a reference to the caller's file.
     pub fn file(&self) -> &F
         ensures { result.now ≡ self.now.file }
     {
         &self.file
     }
 
-    /// Ends the disk. What waits isn't handed out any more.
+    /// Closes the disk and returns the caller's file. Tasks that are still queued are lost.
     pub fn into_file(self) -> F
         ensures { result ≡ self.file }
     {
         self.file
     }
 
-    /// The next task of the caller, or `None` once nothing waits, and after `fail`. It counts as done: the caller does it before it hands
-    /// in bytes.
+    /// Returns the next task for the caller, or `None` if none is queued, and after `fail`. The task counts as done from then on: the
+    /// caller does it before it hands in bytes.
     ///
-    /// The bytes of a write are put to the front of the buffer, as far as it has room, and the rest comes as a further write. Into a
-    /// buffer of no bytes a write comes as one of none, and waits as before. Where the file that is told of the task fails, it is `None`
-    /// too, and as after `fail`.
+    /// The bytes of a write are put at the front of `into`, as many as fit, and the rest follows as another write. If `into` is empty, a
+    /// write is returned with no bytes, and stays queued. If the caller's file fails at the task, the result is `None` too, and the disk is
+    /// as after `fail`.
     pub fn next_task(&mut self, into: &mut [u8]) -> Option<Task>
         ensures next { HandsOut result into.new self.old self.new }
         ensures over { (file : List ℕ) → IsOver file self.old
@@ -117,21 +117,22 @@ impl<F: CallersFile> StagedDisk<F> {
         self.stage.next(&mut self.file, into)
     }
 
-    /// What the last read wanted whose bytes weren't handed in: their place, and how many. It is `None` again once bytes are handed in
-    /// and kept, after `forget`, and after a read outside of the file, which no bytes would help.
+    /// Returns the place and the number of the bytes that were needed by the last read whose bytes had not been handed in. It is `None`
+    /// again once bytes were handed in and kept, after `forget`, and after a read outside of the file, for which no bytes would help.
     pub fn needs(&self) -> Option<(u64, usize)>
         ensures { result ≡ self.now.stage.needs }
     {
         self.stage.needs
     }
 
-    /// Hands in bytes of the file from a place on, as they are once all tasks are done that were handed out. A copy of them is kept until
-    /// `forget`, or until one of them is written over. A read may go over several pieces, where they adjoin or overlap.
+    /// Hands in bytes of the file, from place `at` on, as they are once all tasks that were handed out are done. The disk keeps a copy
+    /// until `forget`, or until one of these bytes is written over. A read may span several pieces that adjoin or overlap.
     ///
-    /// Bytes past the file's length are left out. Nothing is kept where one of the bytes lies in a write that waits, or between two of
-    /// these, since the write may change it: the caller works off what waits first.
+    /// Bytes past the file's length are ignored. While writes are queued, nothing is kept of a piece that overlaps the range from the
+    /// lowest to the highest place written since the queue was last empty, because a queued write may change it: the caller does all queued
+    /// tasks first.
     ///
-    /// AllocError: there was no memory for the copy, and nothing changed.
+    /// AllocError: the allocation of the copy failed, and nothing changed.
     pub fn hand_in(&mut self, at: u64, bytes: &[u8]) -> Result<(), AllocError>
         requires word { F.tells → StandsAt at bytes.now (holds self.old) }
         ensures taken { TakesIn at bytes.now self.old self.new }
@@ -145,7 +146,7 @@ impl<F: CallersFile> StagedDisk<F> {
         self.stage.take_in(at, &bytes[..len])
     }
 
-    /// Lets go of what was handed in, and of what was needed.
+    /// Drops the bytes that were handed in, and resets `needs` to `None`.
     pub fn forget(&mut self)
         ensures forgets { Forgets self.old self.new }
         ensures waits { StillWaits self.old self.new }
@@ -155,9 +156,11 @@ impl<F: CallersFile> StagedDisk<F> {
         self.stage.forget();
     }
 
-    /// A write or a sync of the caller failed. Nothing is handed out any more, and each later write and sync is a WriteFault. What is durable
-    /// is found by opening the file again over a new disk. The length counts what was written and then lost, and reads go on, but for the
-    /// bytes of a write that still waited: none that is handed in there is kept.
+    /// Reports that a write or a sync of the caller failed. From then on no task is handed out, and each write and sync returns WriteFault.
+    /// To find what is durable, open the file again over a new disk.
+    ///
+    /// The length still counts what was written and then lost. Reads still work, except of bytes that `hand_in` does not keep because
+    /// writes were still queued.
     pub fn fail(&mut self)
         ensures fails { Fails self.old self.new }
         ensures rests { StaysTheSame self.old self.new }
@@ -165,7 +168,7 @@ impl<F: CallersFile> StagedDisk<F> {
         self.stage.fail();
     }
 
-    /// Whether a write or a sync of the caller failed.
+    /// Returns whether a write or a sync of the caller failed.
     pub fn has_failed(&self) -> bool
         ensures { result ≡ failed self.now }
     {

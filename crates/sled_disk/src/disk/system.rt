@@ -1,6 +1,6 @@
-//! What a disk over a file asks of the system.
+//! What a disk over a file requires of the operating system.
 
-ghost use Rattle.std.specs.Prelude.{◌≡◌, ◌⊎◌, ◌+◌, ◌≤◌, ◌<◌, ℕ, Bool, false, [], ◌∷◌, List, length, take, drop, get_or, IfOk, OnOk};
+ghost use Rattle.std.specs.Prelude.{◌≡◌, ◌+◌, ◌≤◌, ◌<◌, ℕ, Bool, false, [], ◌∷◌, List, length, take, drop, get_or, IfOk, OnOk};
 ghost use Rattle.sled_disk.specs.Disk.{Only, Follows, LeavesNoMore, Torn, overlaid, Elapses};
 
 use std::fs::File;
@@ -11,47 +11,51 @@ use std::os::unix::fs::FileExt;
 // So often in a row may a write be interrupted before it has written anything.
 const MOST_INTERRUPTIONS: u32 = 1000;
 
-/// A file of the system, opened for reading and writing. `tells` is that the system keeps its word, which is four things. A read gives the
-/// bytes that were written there, and the size is theirs. A write changes nothing but its own range, and the size: as many of its first bytes
-/// as it answers, and where it fails any of them. Once a sync has answered Ok, a crash leaves what was there, and may tear what is written
-/// after it. And nobody else writes to the file or cuts it.
+/// A file of the operating system, opened for reading and writing.
 ///
-/// On a file on which a write or a sync failed no other is made, and the word is not asked for it any more: a system may take what it couldn't
-/// write for durable. It isn't asked of that file when it is opened again either, until the system was restarted: then a read gives what is
-/// durable.
+/// `tells` is the premise that the system keeps its word, which is four things. A read returns the bytes that were written there, and the
+/// size is their number. A write changes only its own range and the size: it writes as many of its first bytes as it returns, and if it
+/// fails, it may have written any of them. Once a sync has returned Ok, a crash leaves what was there then, and may tear only what is
+/// written after it. Nobody else writes to the file or truncates it.
+///
+/// Once a write or a sync has failed, no other one is made on that file, and nothing more is assumed of it: a system may take data that it
+/// could not write for durable. Nothing is assumed either when the file is opened again, until the system has been restarted. After that a
+/// read returns what is durable.
 pub trait SystemFile: Drop {
-    /// That the system keeps its word.
+    /// The premise that the system keeps its word.
     ghost tells: { Type 0 };
 
-    /// Whether a write or a sync failed on it, since the system was started: also before it was opened, as on another handle of the same file.
+    /// Whether a write or a sync of this file has failed since the system was started, including before it was opened, for example on
+    /// another handle of the same file.
     ghost has_failed: { Self → Bool };
 
-    /// The bytes that a read gives.
+    /// The bytes that reads return.
     ghost seen: { Self → List ℕ };
 
     /// The bytes that a crash now may leave.
     ghost may_leave: { Self → List ℕ → Type 0 };
 
-    /// The moment, as a number that doesn't fall.
+    /// The current moment, a number that never decreases.
     ghost moment: { Self → ℕ };
 
-    /// What a crash at some moment from that one on might have left.
+    /// What a crash at that moment or later might have left.
     ghost left_since: { Self → ℕ → List ℕ → Type 0 };
 
-    /// How many bytes there are.
+    /// Returns the number of bytes.
     fn size(&self) -> io::Result<u64>
         ensures size { tells → IfOk result (λ len. len ≡ length (seen self.now)) };
 
-    /// Reads as many bytes at a place, or fails.
+    /// Reads the bytes at place `at` into all of `into`, or fails.
     fn read_whole_at(&self, at: u64, into: &mut [u8]) -> io::Result<()>
         ensures within { tells → OnOk result (at + length into.old ≤ length (seen self.now)) }
         ensures bytes { tells
             → OnOk result (into.new ≡ take (length into.old) (drop at (seen self.now))) }
         ensures length { length into.new ≡ length into.old };
 
-    /// Writes the first of the bytes at a place, as many as the system takes at once, and answers how many. 0 stands for a failure.
+    /// Writes the first of the bytes at place `at`, as many as the system takes at once, and returns how many. 0 means that the write
+    /// failed.
     ///
-    /// Whether it fails or not, a crash may leave any bytes in the whole range until a sync, or what it may have left before.
+    /// Until a sync, a crash may leave any bytes in the whole range, or what it might have left before, whether the write fails or not.
     fn write_some_at(&mut self, at: u64, bytes: &[u8]) -> io::Result<usize>
         requires sound { tells → has_failed self.old ≡ false }
         requires within { tells → at ≤ length (seen self.old) }
@@ -64,7 +68,7 @@ pub trait SystemFile: Drop {
         ensures keeps { tells → (left : List ℕ) → may_leave self.old left → may_leave self.new left }
         ensures time { tells → Elapses moment left_since may_leave self.old self.new };
 
-    /// Writes the one byte that is there once more, or fails: no byte changes, and no crash state, since a byte is never torn.
+    /// Writes the one byte that is at place `at` again, or fails. No byte changes and no crash state is added, since a byte is never torn.
     fn write_again_at(&mut self, at: u64, byte: u8) -> io::Result<()>
         requires sound { tells → has_failed self.old ≡ false }
         requires there { tells → take 1 (drop at (seen self.old)) ≡ byte ∷ [] }
@@ -82,28 +86,28 @@ pub trait SystemFile: Drop {
         ensures stop { tells → LeavesNoMore (may_leave self.old) (may_leave self.new) }
         ensures time { tells → Elapses moment left_since may_leave self.old self.new };
 
-    /// Its bytes are bytes.
+    /// Each byte is below 256.
     ghost are_bytes: { (file : Self) (i : ℕ) → tells → get_or (seen file) i 0 < 256 };
 
-    /// What a read gives is a crash state of this moment.
+    /// What a read returns is a crash state of the current moment.
     ghost seen_now: { (file : Self) → tells → may_leave file (seen file) };
 
-    /// The crash states of this moment are among those since it,
+    /// The crash states of the current moment are among those since it.
     ghost left_now: { (file : Self) (left : List ℕ) → tells → may_leave file left
         → left_since file (moment file) left };
 
-    /// and they are all of them.
+    /// There are no other crash states since the current moment.
     ghost only_now: { (file : Self) (left : List ℕ) → tells → left_since file (moment file) left
         → may_leave file left };
 
-    /// What a crash since some moment might have left, it might have left since an earlier one.
+    /// The crash states since a moment are among those since any earlier moment.
     ghost since_earlier: { (file : Self) (t u : ℕ) (left : List ℕ) → tells → t ≤ u
         → left_since file u left → left_since file t left };
 }
 
-/// A file of the system as it is. That the system keeps its word is no matter of proof, so this is the one member that promises nothing:
-/// each of its calls is one of the system's, and a reader compares them with what the trait asks. `tools/trace.sh` looks at them in a program
-/// that was built.
+/// The operating system's own file. That the system keeps its word cannot be proved, so here `tells` is false, and nothing is promised
+/// about bytes. Its calls make the system's: a reader compares them with what the trait requires, and `tools/trace.sh` checks them in a
+/// built program.
 impl SystemFile for File {
     ghost tells = { ⊥ };
 

@@ -1,14 +1,13 @@
 // The log on a disk as a log.
 
-ghost use Rattle.std.specs.Prelude.{◌≡◌, ◌≢◌, ◌≤◌, ◌<◌, ◌+◌, ◌*◌, ◌^◌, ◌⊎◌, ◌↔◌, ℕ, ℤ, pos, [], ◌∷◌, true, false, length, slice_index_or, Ok, IfOk, IfErr, OnOk, IsErrOf, IsOk, IfSome, IfNone};
+ghost use Rattle.std.specs.Prelude.{◌≡◌, ◌≢◌, ◌≤◌, ◌<◌, ◌+◌, ◌*◌, ◌⊎◌, ◌↔◌, ℕ, pos, [], ◌∷◌, true, false, length, slice_index_or, Ok, IfOk, IfErr, OnOk, IsErrOf, IsOk, IfSome, IfNone};
 ghost use Rattle.std.specs.List.{All, AllByRecursion, AllZip, Any};
 ghost use Rattle.sled_log.specs.Events.{is_open};
 ghost use Rattle.sled_log.specs.Calls.{can_append, Appends, Pins, Seals, Cancels, AddsNothing, ReadsOnce};
 ghost use Rattle.sled_log.specs.Chains.{is_chain};
-ghost use Rattle.sled_log.specs.Events.{Change, Pin, Seal, Cancel};
 ghost use Rattle.sled_log.specs.Limits.{head_size, size_limit};
 ghost use Rattle.sled_log.specs.LogState.{now};
-ghost use Rattle.sled_log.specs.Messages.{effect_of_entry, message, placed_entry};
+ghost use Rattle.sled_log.specs.Messages.{effect_of_entry, message};
 ghost use Rattle.sled_log.specs.Moves.{Named, due_among, moves_with};
 ghost use Rattle.sled_log.specs.Pages.{IsPageState, IsSized, IsAt, IsRead, IsReadAs};
 ghost use Rattle.sled_log.specs.Payloads.{payload_in};
@@ -16,17 +15,17 @@ ghost use Rattle.sled_log.specs.declared.log.LogError.TheVariants.{Memory, Full,
 ghost use Rattle.sled_base.specs.declared.types.DiskPtr.TheVariants.{Inline};
 ghost use Rattle.sled_disk.specs.Crash.{BytesLeft};
 ghost use Rattle.sled_disk.specs.Reading.{chains_of, effect_of_head};
-ghost use Rattle.sled_disk.specs.Standing.{events_in};
-ghost use Rattle.sled_disk.specs.OnDisk.{Rests};
-ghost use Rattle.sled_disk.specs.Ready.{LeavesPages, IsEither};
-ghost use Rattle.sled_disk.specs.ReadyLaws.{log-keeps, log-only, log-due};
+ghost use Rattle.sled_disk.specs.LogContents.{events_in};
+ghost use Rattle.sled_disk.specs.DiskReads.{Rests};
+ghost use Rattle.sled_disk.specs.RecoveredLog.{LeavesPages, IsEither};
+ghost use Rattle.sled_disk.specs.RecoveredLogLaws.{log-keeps, log-only, log-due};
 ghost use Rattle.sled_disk.specs.Names.{moves_in, read_of, most_steps, IsReadAhead, IsDueOfAll};
-ghost use Rattle.sled_disk.specs.Waiting.{state_of, place_of, said_of, size_of, events_of, events_with, IsDue, IsFullFor, IsFullForBatch};
+ghost use Rattle.sled_disk.specs.PendingFrame.{state_of, place_of, said_of, size_of, events_of, events_with, IsDue, IsFullFor, IsFullForBatch};
 
 use super::DiskLog;
 use super::finding::find;
 use crate::disk::{Disk, count};
-use crate::recovery::pages_of;
+use crate::recovery::pages::pages_of;
 use sled_base::{BlobPointer, DiskPtr, LogOffset, Lsn, MessageKind, PageId};
 use sled_log::{Log, LogError, PageState, Payload};
 

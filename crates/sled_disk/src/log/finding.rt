@@ -1,18 +1,18 @@
 // A record of a page by its place.
 
-ghost use Rattle.std.specs.Prelude.{◌≡◌, ◌≢◌, ◌≤◌, ◌<◌, ◌+◌, ◌-◌, ◌^◌, ◌⊎◌, ℕ, List, [], true, length, take, drop, slice_index_or, IfOk, IfErr, IfSome, IfNone, IsErrOf};
+ghost use Rattle.std.specs.Prelude.{◌≡◌, ◌≢◌, ◌≤◌, ◌<◌, ◌+◌, ◌-◌, ◌⊎◌, [], true, take, drop, slice_index_or, IfOk, IfErr, IfSome, IfNone};
 ghost use Rattle.std.specs.List.{AllByRecursion};
 ghost use Rattle.sled_log.specs.Payloads.{payload_in};
-ghost use Rattle.sled_log.specs.declared.log.LogError.TheVariants.{Memory, ReadFault, Corruption};
-ghost use Rattle.sled_disk.specs.Found.{IsHeadOf};
-ghost use Rattle.sled_disk.specs.OnDisk.{Rests, ReadFaults};
-ghost use Rattle.sled_disk.specs.Opened.{EndsBy, IsPlaced};
+ghost use Rattle.sled_log.specs.declared.log.LogError.TheVariants.{Memory, ReadFault};
+ghost use Rattle.sled_disk.specs.HeadLookup.{IsHeadOf};
+ghost use Rattle.sled_disk.specs.DiskReads.{Rests, ReadFaults};
+ghost use Rattle.sled_disk.specs.RecoveredHeads.{EndsBy, IsPlaced};
 ghost use Rattle.sled_disk.specs.Reading.{chains_of};
-ghost use Rattle.sled_disk.specs.Waiting.{place_of};
+ghost use Rattle.sled_disk.specs.PendingFrame.{place_of};
 
 use super::DiskLog;
 use crate::disk::Disk;
-use crate::head::Head;
+use crate::recovery::head::Head;
 use sled_base::{LogOffset, PageId};
 use sled_log::{LogError, Payload};
 use std::alloc::Global;

@@ -1,18 +1,17 @@
 // The message that is to be named next, which is read from the file or from what is pending.
 
-ghost use Rattle.std.specs.Prelude.{◌≡◌, ◌≤◌, ◌<◌, ◌+◌, ◌-◌, ◌*◌, ◌^◌, ◌⊎◌, ℕ, [], None, IfNone, IfOk, IfErr, IsErrOf, true, false, length, take, drop};
-ghost use Rattle.sled_log.specs.Calls.{HasGrown};
+ghost use Rattle.std.specs.Prelude.{◌≡◌, ◌≤◌, ◌<◌, ◌+◌, ◌-◌, ◌*◌, ◌^◌, ◌⊎◌, None, IfOk, IfErr, IsErrOf, true, false, length, take, drop};
 ghost use Rattle.sled_log.specs.declared.log.LogError.TheVariants.{ReadFault, Corruption};
 ghost use Rattle.sled_disk.specs.Cursor.{IsFront};
 ghost use Rattle.sled_disk.specs.Format.{number};
 ghost use Rattle.sled_disk.specs.Names.{moves_in, most_steps, IsStep, IsFound, IsSought};
-ghost use Rattle.sled_disk.specs.OnDisk.{Rests, ReadFaults};
-ghost use Rattle.sled_disk.specs.Waiting.{place_of};
+ghost use Rattle.sled_disk.specs.DiskReads.{Rests, ReadFaults};
+ghost use Rattle.sled_disk.specs.PendingFrame.{place_of};
 
 use super::DiskLog;
 use crate::disk::Disk;
-use crate::next_frame::NextFrame;
-use crate::reading::{RawHead, head_in, number_at};
+use crate::format::next_frame::NextFrame;
+use crate::format::record::{RawHead, head_in, number_at};
 use sled_log::LogError;
 
 // So many frames and records are gone over at most in one call.

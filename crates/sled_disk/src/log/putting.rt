@@ -1,6 +1,6 @@
 // A message more.
 
-ghost use Rattle.std.specs.Prelude.{◌≡◌, ◌≢◌, ◌≤◌, ◌<◌, ◌+◌, ◌^◌, ◌⊎◌, ◌↔◌, ℕ, pos, [], ◌∷◌, true, false, length, IfOk, IfErr, OnOk, IsErrOf};
+ghost use Rattle.std.specs.Prelude.{◌≡◌, ◌≢◌, ◌≤◌, ◌<◌, ◌+◌, ◌^◌, ◌↔◌, pos, [], ◌∷◌, true, length, IfOk, IfErr, OnOk, IsErrOf};
 ghost use Rattle.std.specs.List.{AllByRecursion};
 ghost use Rattle.sled_log.specs.Calls.{can_append, Appends};
 ghost use Rattle.sled_log.specs.Limits.{head_size, size_limit};
@@ -12,10 +12,10 @@ ghost use Rattle.sled_log.specs.declared.log.LogError.TheVariants.{Full, WriteFa
 ghost use Rattle.sled_base.specs.declared.types.DiskPtr.TheVariants.{Inline};
 ghost use Rattle.sled_disk.specs.Crash.{BytesLeft};
 ghost use Rattle.sled_disk.specs.Reading.{chains_of, effect_of_head};
-ghost use Rattle.sled_disk.specs.Standing.{events_in};
-ghost use Rattle.sled_disk.specs.Ready.{IsEither};
+ghost use Rattle.sled_disk.specs.LogContents.{events_in};
+ghost use Rattle.sled_disk.specs.RecoveredLog.{IsEither};
 ghost use Rattle.sled_disk.specs.Names.{moves_in};
-ghost use Rattle.sled_disk.specs.Waiting.{place_of, said_of, events_with, IsDue, IsFullFor};
+ghost use Rattle.sled_disk.specs.PendingFrame.{place_of, said_of, events_with, IsDue, IsFullFor};
 
 use super::DiskLog;
 use crate::disk::Disk;

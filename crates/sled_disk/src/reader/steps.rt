@@ -1,6 +1,6 @@
-//! A reader's steps: a gate, or a record.
+//! The steps of a reader: a gate, or a record.
 
-ghost use Rattle.std.specs.Prelude.{◌≡◌, ◌≢◌, ℕ, ◌+◌, ◌≤◌, ◌<◌, ◌^◌, ◌⊎◌, ◌&&◌, ◌||◌, ◌==◌, Bool, true, false, Some, None, List, [], ◌++◌, length, take, drop, IfOk, IfErr, OnOk, OnErr, IsErrOf};
+ghost use Rattle.std.specs.Prelude.{◌≡◌, ◌≢◌, ℕ, ◌+◌, ◌≤◌, ◌<◌, ◌^◌, ◌⊎◌, ◌&&◌, ◌||◌, ◌==◌, Bool, true, false, Some, None, List, drop, IfOk, IfErr, OnOk, OnErr, IsErrOf};
 ghost use Rattle.std.specs.List.{AllByRecursion, list_all};
 ghost use Rattle.sled_log.specs.Events.{Event};
 ghost use Rattle.sled_log.specs.Messages.{Entry};
@@ -9,24 +9,24 @@ ghost use Rattle.sled_log.specs.declared.log.LogError.TheVariants.{Memory, ReadF
 ghost use Rattle.sled_disk.specs.Disk.{Only, LeavesTheSame};
 ghost use Rattle.sled_disk.specs.Format.{Describes};
 ghost use Rattle.sled_disk.specs.Abandoned.{room_behind};
-ghost use Rattle.sled_disk.specs.GoesOn.{GoesOn, read_by, waiting_by};
+ghost use Rattle.sled_disk.specs.ReaderState.{GoesOn, read_by, waiting_by};
 ghost use Rattle.sled_base.specs.Kinds.{kind_of};
-ghost use Rattle.sled_disk.specs.OnDisk.{Rests, ReadFaults, HasHead, HeadOnDisk};
-ghost use Rattle.sled_disk.specs.Opened.{AllEndBy, AreHeads, AreRead};
+ghost use Rattle.sled_disk.specs.DiskReads.{Rests, ReadFaults, HasHead, HeadOnDisk};
+ghost use Rattle.sled_disk.specs.RecoveredHeads.{AllEndBy, AreHeads, AreRead};
 ghost use Rattle.sled_disk.specs.Reading.{chains_of, start, found_at, Holds};
 
 use super::Reader;
+use super::parts::{body_on, gate_on, head_on, number_on};
+use super::targets::Targets;
 use super::waiting::take_all;
+use super::window::Window;
 use crate::disk::Disk;
-use crate::head::Head;
-use crate::next_frame::CLOSING_FRAME;
-use crate::pages::{is_change, take_head};
-use crate::parts::{body_on, gate_on, head_on, number_on};
-use crate::reading::{
+use crate::format::next_frame::CLOSING_FRAME;
+use crate::format::record::{
     ABANDONED, MAX_PLACE, OPENING, RawHead, begins, closes, is_begin, is_end, is_mark,
 };
-use crate::targets::Targets;
-use crate::window::Window;
+use crate::recovery::chains::{is_change, take_head};
+use crate::recovery::head::Head;
 use sled_base::MessageKind;
 use sled_log::LogError;
 use std::alloc::Global;
@@ -62,8 +62,8 @@ fn greatest_gate(begun: Option<u64>) -> u64
 impl Reader {
     /// Begins to read the file on a disk.
     ///
-    /// Corruption: the file doesn't begin with the opening bytes. ReadFault, Memory: a read failed, or out of memory; nothing is
-    /// kept, and the call can be made again.
+    /// Corruption: the file does not begin with the opening bytes. ReadFault, Memory: a read or an allocation failed. Nothing is kept, and
+    /// the call can be repeated.
     pub fn begin<D: Disk>(alloc: Global, disk: &mut D) -> Result<Reader, LogError>
         ensures goes_on { D.tells → IfOk result (λ reader. GoesOn (D.seen disk.new) reader) }
         ensures corrupt { D.tells → IsErrOf result Corruption → (events : List (Event Entry))
@@ -302,17 +302,18 @@ impl Reader {
         }
     }
 
-    /// The place of the record that began a batch in which the file ends.
+    /// Returns the place of the record that began a batch, if the file ends inside one.
     pub(crate) fn begun(&self) -> Option<u64>
         ensures { result ≡ self.now.begun }
     {
         self.begun
     }
 
-    /// Reads on, on the disk that it began with, up to the closed gate where the file's meaning ends, and answers the gate's place.
+    /// Continues to read up to the closed gate at which the described part of the file ends, and returns the place of that gate. The disk
+    /// must be the one that the reader began with.
     ///
-    /// Corruption: the file describes no events. ReadFault, Memory: a read failed, or out of memory; what was read stays read, and
-    /// the next call goes on from there.
+    /// Corruption: the file describes no events. ReadFault, Memory: a read or an allocation failed. What was read stays read, and the next
+    /// call resumes from there.
     pub fn read<D: Disk>(&mut self, disk: &mut D) -> Result<u64, LogError>
         requires goes_on { D.tells → GoesOn (D.seen disk.old) self.old }
         ensures goes_on { D.tells → GoesOn (D.seen disk.new) self.new }
@@ -339,7 +340,7 @@ impl Reader {
         }
     }
 
-    /// Reads all of the file on a disk, as `begin` and then `read` do. At an error nothing is kept.
+    /// Reads the whole file on a disk, as `begin` and `read` do. An error keeps nothing.
     pub(crate) fn read_whole<D: Disk>(alloc: Global, disk: &mut D) -> Result<Reader, LogError>
         ensures goes_on { D.tells → IfOk result (λ reader. GoesOn (D.seen disk.new) reader) }
         ensures corrupt { D.tells → IsErrOf result Corruption → (events : List (Event Entry))
@@ -357,13 +358,13 @@ impl Reader {
         }
     }
 
-    /// Makes durable what was read: writes the byte of the last open gate again, and syncs the disk.
+    /// Makes durable what was read: writes the byte of the last open gate again, or of the first gate if none is open, and syncs the disk.
     ///
-    /// Where a sync has failed a system may take what it couldn't write for durable: a read then shows the gate that was opened, the device
-    /// has the closed one, and a further sync has nothing to do. All else that was read was synced before a later gate was opened, so that
-    /// one byte is enough. No byte and no crash state changes but by what the sync makes durable.
+    /// After a failed sync, a system may take data for durable that it could not write. A read then shows the gate that was opened, the
+    /// device has the closed one, and a further sync does nothing. All else that was read was synced before a later gate was opened, so
+    /// writing this one byte is enough. No crash state is added, and no byte changes unless the error is a WriteFault.
     ///
-    /// Memory: there was none for that write, and nothing was done. ReadFault: the byte couldn't be read. WriteFault: it couldn't be written,
+    /// Memory: no memory for that write, and nothing was done. ReadFault: the byte could not be read. WriteFault: it could not be written
     /// or synced.
     pub fn make_durable<D: Disk>(&self, disk: &mut D) -> Result<(), LogError>
         ensures durable { D.tells → OnOk result (Only (D.seen disk.new) (D.may_leave disk.new)) }
@@ -379,7 +380,7 @@ impl Reader {
         disk.sync()
     }
 
-    /// The pages that were read, by the heads of their chains.
+    /// Returns the pages that were read, by the heads of their chains.
     pub(crate) fn into_pages(self) -> Vec<Vec<Head>>
         ensures { result ≡ self.pages }
     {

@@ -1,14 +1,14 @@
 // The changes of a batch that is begun, which wait for the record that closes it.
 
-ghost use Rattle.std.specs.Prelude.{◌≡◌, ℕ, ◌⊎◌, true, [], length, IfErr, OnOk, OnErr, IsErrOf, None};
+ghost use Rattle.std.specs.Prelude.{◌≡◌, ℕ, ◌⊎◌, [], IfErr, OnOk, IsErrOf, None};
 ghost use Rattle.std.specs.List.{AllByRecursion};
 ghost use Rattle.sled_log.specs.declared.log.LogError.TheVariants.{Memory, Corruption};
-ghost use Rattle.sled_disk.specs.Opened.{AreHeadsBy};
+ghost use Rattle.sled_disk.specs.RecoveredHeads.{AreHeadsBy};
 ghost use Rattle.sled_disk.specs.Reading.{chains_of};
-ghost use Rattle.sled_disk.specs.TakenBy.{taken_by, IsWaiting, IsChanging};
+ghost use Rattle.sled_disk.specs.BatchChanges.{taken_by, IsWaiting, IsChanging};
 
-use crate::head::Head;
-use crate::pages::take_head;
+use crate::recovery::chains::take_head;
+use crate::recovery::head::Head;
 use sled_base::PageId;
 use sled_log::LogError;
 use std::alloc::Global;

@@ -1,7 +1,7 @@
 // Which messages a log on a disk names to be moved, before and after its file is opened again.
 
 ghost use Rattle.std.specs.Prelude.{◌≡◌, true, [], IfOk, OnOk};
-ghost use Rattle.sled_disk.specs.Waiting.{pending_of};
+ghost use Rattle.sled_disk.specs.PendingFrame.{pending_of};
 
 use super::room::KeepingDisk;
 use super::*;

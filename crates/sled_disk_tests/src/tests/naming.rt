@@ -1,6 +1,6 @@
 // Which messages a log on a disk names over many frames, behind marks and behind a read that fails, and how often it reads for that.
 
-ghost use Rattle.std.specs.Prelude.{◌≡◌, true, [], IfOk, IfSome};
+ghost use Rattle.std.specs.Prelude.{◌≡◌, true, [], IfSome};
 
 use super::room::KeepingDisk;
 use super::*;

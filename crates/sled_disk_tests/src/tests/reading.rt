@@ -2,7 +2,7 @@
 
 ghost use Rattle.std.specs.Prelude.{[], IfOk, OnOk};
 ghost use Rattle.sled_disk.specs.Disk.{Only};
-ghost use Rattle.sled_disk.specs.GoesOn.{GoesOn};
+ghost use Rattle.sled_disk.specs.ReaderState.{GoesOn};
 
 use super::*;
 

@@ -1,6 +1,5 @@
 //! Opening and closing a batch.
 
-ghost use Rattle.std.specs.Prelude.{◌≡◌, false};
 ghost use Rattle.sled_pagecache.specs.Batches.{SealsBatch, CancelsBatch};
 ghost use Rattle.sled_handle.specs.Steps.{Opens, Closes};
 

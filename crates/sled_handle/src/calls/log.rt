@@ -1,4 +1,4 @@
-//! Generated ids, and what is asked of the whole log.
+//! Generated ids, and calls on the whole log.
 
 ghost use Rattle.std.specs.Prelude.{◌≡◌};
 ghost use Rattle.sled_handle.specs.Statuses.{capped};

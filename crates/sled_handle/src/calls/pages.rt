@@ -1,4 +1,4 @@
-//! Making, reading, changing and freeing a page.
+//! Allocating, reading, changing and freeing a page.
 
 ghost use Rattle.std.specs.Prelude.{◌≡◌};
 ghost use Rattle.sled_node.specs.declared.node.link.Link.TheVariants.{Set, Del};
@@ -16,7 +16,7 @@ use crate::status::{
 use sled_pagecache::{Error, IVec, Link, Log, NodeView, PageCache, PageId, PageView};
 use std::alloc::Global;
 
-/// What is told of a page beside its pairs.
+/// What is reported of a page besides its pairs.
 #[repr(C)]
 #[derive(Clone, Copy)]
 pub struct Found {
@@ -26,7 +26,7 @@ pub struct Found {
     pub count: usize,
     /// How many bytes they take.
     pub needed: usize,
-    /// Whether the page is an index: the value of each pair is a page then.
+    /// Whether the page is an index: then the value of each pair is a page.
     pub is_index: bool,
 }
 

@@ -1,4 +1,4 @@
-//! Rewriting a cache in memory into a new log, over which it goes on.
+//! Rewriting a cache in memory into a new log, on which it continues.
 
 ghost use Rattle.sled_handle.specs.Rewriting.{Compacts};
 

@@ -1,4 +1,4 @@
-//! Opening a cache behind a handle over a file, which is out of sight there (`UnseenFile`).
+//! Opening a cache of a handle over a file, which the contracts don't see (`UnseenFile`).
 
 ghost use Rattle.sled_handle.specs.FileOpenings.{OpenFile, OpenLog};
 
@@ -9,8 +9,11 @@ use sled_disk::UnseenFile;
 use std::alloc::Global;
 
 impl Handle {
-    /// Opens a cache over a file of so many bytes behind a closed handle, once the settings are found to be right. Where bytes were needed it
-    /// goes on, with what was begun, and the settings and the length are not looked at. The handle is closed where the opening failed.
+    /// Opens a cache over a file of `len` bytes in a closed handle. The settings are checked first: if one is invalid, its status is returned, and
+    /// the handle stays closed.
+    ///
+    /// Returns `NEEDS` if bytes of the file are needed first: the repeated call continues the opening, and ignores the settings and the length.
+    /// Returns `ALREADY_OPEN` if the handle has a cache, which stays. After any other failure the handle is closed.
     pub fn open_file(&mut self, alloc: Global, settings: FileSettings, len: u64) -> u32
         ensures { OpenFile settings self.old.store self.new.store result }
     {
@@ -31,8 +34,12 @@ impl Handle {
         }
     }
 
-    /// Makes a new log in a file of no bytes behind a closed handle, once the settings are found to be right, and opens no cache over it. Where
-    /// bytes were needed it goes on, with what was begun, as it does with an opening that was begun, until its log is read.
+    /// Makes a new log in an empty file, in a closed handle, and opens no cache over it. The settings are checked first: if one is invalid, its
+    /// status is returned, and the handle stays closed.
+    ///
+    /// Returns `NEEDS` if bytes of the file are needed first: the repeated call continues, until the log is read. An opening that was begun by
+    /// `open_file` is continued in the same way. Returns `ALREADY_OPEN` if the handle has a cache, which stays. After any other failure the handle is
+    /// closed.
     pub fn new_log(&mut self, alloc: Global, settings: FileSettings) -> u32
         ensures { OpenLog settings self.old.store self.new.store result }
     {

@@ -1,4 +1,4 @@
-//! Opening a cache behind a handle over a new log in memory, and closing a handle.
+//! Opening a cache of a handle over a new log in memory, and closing a handle.
 
 ghost use Rattle.std.specs.Prelude.{IfOk, IfErr};
 ghost use Rattle.sled_handle.specs.Handles.{CloseHandle};
@@ -12,7 +12,8 @@ use sled_pagecache::{MemLog, PageCache};
 use std::alloc::Global;
 
 impl Handle {
-    /// Opens a cache over a new log in memory behind a closed handle, which stays closed where that is refused. An open one stays.
+    /// Opens a cache over a new log in memory in a closed handle. If that fails, the handle stays closed. Returns `ALREADY_OPEN` if the handle is
+    /// open, which changes nothing.
     pub fn open_memory(&mut self, alloc: Global, settings: Settings) -> u32
         ensures { OpenHandle settings self.old.store self.new.store result }
     {
@@ -29,7 +30,8 @@ impl Handle {
         }
     }
 
-    /// Closes the cache behind the handle, or the file that is being opened. Nothing is flushed, so an open batch is lost.
+    /// Closes the handle, and drops its cache, or the file that is being opened. Nothing is flushed, so an open batch is lost. Returns `CLOSED` if it
+    /// was closed.
     pub fn close(&mut self, alloc: Global) -> u32
         ensures { CloseHandle self.old.store self.new.store result }
     {

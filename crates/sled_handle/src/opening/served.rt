@@ -9,7 +9,7 @@ use sled_disk::{CallersFile, Task};
 use std::alloc::AllocError;
 
 impl<F: CallersFile> Opening<F> {
-    /// Whether a write or a sync of the file failed.
+    /// Returns whether a write or a sync of the file failed.
     pub fn has_failed(&self) -> bool
         ensures { result ≡ has_failed (disk_at self.now.step) }
     {
@@ -22,7 +22,7 @@ impl<F: CallersFile> Opening<F> {
         }
     }
 
-    /// What the program does next to the file.
+    /// Returns the next task that the program has to do on the file, if there is one, and writes the bytes of a write to the front of the buffer.
     pub fn next_task(&mut self, into: &mut [u8]) -> Option<Task>
         ensures { OpeningIsBut (HandsOut result into.new) self.old self.new }
     {
@@ -35,7 +35,7 @@ impl<F: CallersFile> Opening<F> {
         }
     }
 
-    /// Hands in bytes of the file, from a place on, or lacks memory for them.
+    /// Hands in bytes of the file, from a place on. `AllocError`: there is no memory for them, and nothing changed.
     pub fn hand_in(&mut self, at: u64, bytes: &[u8]) -> Result<(), AllocError>
         requires word { F.tells → AreIn at bytes.now (disk_at self.old.step) }
         ensures { OpeningIsBut (TakesIn at bytes.now) self.old self.new }
@@ -49,7 +49,7 @@ impl<F: CallersFile> Opening<F> {
         }
     }
 
-    /// Lets go of what was handed in.
+    /// Drops the bytes that were handed in, and what the disk needed.
     pub fn forget(&mut self)
         ensures { OpeningIsBut Forgets self.old self.new }
     {
@@ -62,7 +62,7 @@ impl<F: CallersFile> Opening<F> {
         }
     }
 
-    /// A write or a sync of the file failed.
+    /// Records that a write or a sync of the file failed.
     pub fn fail(&mut self)
         ensures { OpeningIsBut Fails self.old self.new }
     {

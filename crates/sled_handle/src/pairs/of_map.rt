@@ -1,4 +1,4 @@
-//! Writing pairs that a map answered.
+//! Writing pairs that were read from a map.
 
 ghost use Rattle.std.specs.Prelude.{◌≡◌, ◌+◌, ◌≤◌, ◌++◌, length};
 ghost use Rattle.std.specs.List.{AllByRecursion, flat_map};
@@ -11,7 +11,7 @@ use sled_pagecache::IVec;
 // What fits into four bytes.
 const MOST_SHORT: usize = u32::MAX as usize;
 
-/// How many bytes a pair takes, or none where the length of its key or of its value doesn't fit into four bytes, as every one of a map does.
+/// Returns how many bytes a pair takes, or `None` if the length of its key or of its value doesn't fit into four bytes. Every length in a map does.
 pub fn size_of_pair(pair: &(IVec, IVec)) -> Option<usize>
     ensures { SomeIff result (IsShort pair.now) (length (pair_bytes pair.now)) }
 {
@@ -25,7 +25,7 @@ pub fn size_of_pair(pair: &(IVec, IVec)) -> Option<usize>
     Some(HEAD + key_len + value_len)
 }
 
-/// How many bytes pairs take one behind the other, or none where they can't be written.
+/// Returns how many bytes the pairs take together, or `None` if they can't be written: a length doesn't fit into four bytes, or the sum overflows.
 pub fn size_of_all(pairs: &[(IVec, IVec)]) -> Option<usize>
     ensures { SomeIff result (AreWritable pairs.now) (length (flat_map pair_bytes pairs.now)) }
 {
@@ -36,7 +36,7 @@ pub fn size_of_all(pairs: &[(IVec, IVec)]) -> Option<usize>
     Some(size)
 }
 
-/// Writes a pair to the front, where there is room for it.
+/// Writes a pair to the front of `out`, which must have room for it.
 pub fn write_pair(pair: &(IVec, IVec), out: &mut [u8])
     requires short { IsShort pair.now }
     requires room { length (pair_bytes pair.now) ≤ length out.old }
@@ -45,7 +45,7 @@ pub fn write_pair(pair: &(IVec, IVec), out: &mut [u8])
     put_at(pair, out, 0);
 }
 
-/// Writes pairs to the front, where there is room for them, and these bytes behind them.
+/// Writes the pairs to the front of `out`, and the bytes of `behind` after them. `out` must have room for both.
 pub fn write_all(pairs: &[(IVec, IVec)], behind: &[u8], out: &mut [u8])
     requires short { AllByRecursion IsShort pairs.now }
     requires room { length (flat_map pair_bytes pairs.now) + length behind.now ≤ length out.old }

@@ -1,18 +1,19 @@
 //! Reading pairs.
 
-ghost use Rattle.std.specs.Prelude.{◌≡◌, ◌≢◌, ◌<◌, ◌^◌, ◌++◌, false, List, length, map, IfOk, IfSome, IfNone};
+ghost use Rattle.std.specs.Prelude.{◌≡◌, ◌≢◌, ◌<◌, ◌^◌, ◌++◌, false, List, length, IfOk, IfSome, IfNone};
 ghost use Rattle.std.specs.Int.{w32, to_le_bytes};
-ghost use Rattle.std.specs.Option.{SomeIff};
 ghost use Rattle.sled_base.specs.Order.{Bytes, is_below};
-ghost use Rattle.sled_node.specs.Node.{Value, WholeNode, leaf_of};
-ghost use Rattle.sled_node.specs.Pairs.{HasPairs, IsAscending, IsWithinLimit};
+ghost use Rattle.sled_node.specs.Node.{WholeNode};
+ghost use Rattle.sled_node.specs.Pairs.{IsAscending};
 ghost use Rattle.sled_handle.specs.Pairs.{AreAbove, EncodeLeaf, EncodePairs, IsShort, pair_bytes};
 
-use sled_pagecache::{Data, IVec, Leaf, Node};
+use sled_pagecache::{IVec, Node};
 use std::alloc::{AllocError, Global};
 
-/// A leaf over all keys of the pairs that the bytes encode, or none where they encode none that a leaf can hold. Memory for the pairs is taken
-/// where their keys ascend.
+/// Returns a leaf over all keys that holds the pairs which the bytes encode, or `None` if they encode no pairs that a leaf can hold. No memory is
+/// allocated for pairs whose keys don't ascend.
+///
+/// `AllocError`: an allocation failed.
 pub fn leaf_in(alloc: Global, bytes: &[u8]) -> Result<Option<Node>, AllocError>
     ensures some { IfOk result (λ found. IfSome found (EncodeLeaf bytes.now)) }
     ensures none { IfOk result (λ found. IfNone found ((node : WholeNode)
@@ -24,7 +25,7 @@ pub fn leaf_in(alloc: Global, bytes: &[u8]) -> Result<Option<Node>, AllocError>
     let Some(pairs) = pairs_in(alloc, bytes)? else {
         return Ok(None);
     };
-    leaf_of(alloc, pairs)
+    Node::leaf_of(alloc, pairs)
 }
 
 // Whether pairs fill the bytes, each with a key above that of the one before it. Nothing is allocated.
@@ -64,19 +65,6 @@ fn is_below(left: &[u8], right: &[u8]) -> bool
     ensures { result ≡ is_below left.now right.now }
 {
     left.cmp(&right).is_lt()
-}
-
-// The leaf of these pairs over all keys, or none where a leaf can't hold them.
-fn leaf_of(alloc: Global, pairs: Vec<(IVec, IVec)>) -> Result<Option<Node>, AllocError>
-    ensures { IfOk result (λ node. SomeIff node (HasPairs IsWithinLimit pairs.items)
-        (leaf_of (map (λ pair. (pair.0, Value pair.1)) pairs.items))) }
-{
-    let Some(leaf) = Leaf::from_pairs(alloc, pairs)? else {
-        return Ok(None);
-    };
-    let (lo, hi) = (IVec::default(), IVec::default());
-    let contents = Data::Leaf(leaf);
-    Ok(Node::from_parts(0, None, None, false, lo, hi, contents))
 }
 
 // The pairs that the bytes encode, or none where they encode none.

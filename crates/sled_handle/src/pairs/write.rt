@@ -10,7 +10,7 @@ use sled_pagecache::{Item, Node};
 // So many bytes stand before a key.
 pub(super) const HEAD: usize = 8;
 
-/// How many bytes the pairs of a node take.
+/// Returns how many bytes the pairs of a node take.
 pub fn size_of_pairs(node: &Node) -> usize
     ensures { result ≡ length (node_bytes node.now) }
 {
@@ -24,7 +24,7 @@ pub fn size_of_pairs(node: &Node) -> usize
     size
 }
 
-/// Writes the pairs of a node at the front, where there is room for them.
+/// Writes the pairs of a node to the front of `out`, which must have room for them.
 pub fn write_pairs(node: &Node, out: &mut [u8])
     requires { length (node_bytes node.now) ≤ length out.old }
     ensures { IsPut out.old 0 (node_bytes node.now) out.new }

@@ -11,7 +11,7 @@ use crate::status::{CLOSED, WRITE};
 use crate::store::Store;
 use sled_disk::CallersFile;
 
-/// Opens a batch, of which a crash leaves all or nothing once it is sealed. Where one is open the answer is BATCH_OPEN.
+/// Opens a batch: once it is sealed, a crash leaves all of it or nothing. Returns `BATCH_OPEN` if one is open.
 pub fn pin<F: CallersFile>(store: &mut Store<F>) -> u32
     ensures { ThroughStore store.old store.new result ⊤
         (λ _ g old new status. Opens g old new status) }
@@ -19,7 +19,7 @@ pub fn pin<F: CallersFile>(store: &mut Store<F>) -> u32
     through!(store, cache => calls::pin(cache))
 }
 
-/// Closes the open batch: a crash leaves all of it or nothing. Where none is open the answer is NO_BATCH.
+/// Closes the open batch: a crash leaves all of it or nothing. Returns `NO_BATCH` if none is open.
 pub fn seal<F: CallersFile>(store: &mut Store<F>) -> u32
     ensures { ThroughStore store.old store.new result ⊤
         (λ _ g old new status. Closes g old new (SealsBatch g) status) }
@@ -27,7 +27,7 @@ pub fn seal<F: CallersFile>(store: &mut Store<F>) -> u32
     through!(store, cache => calls::seal(cache))
 }
 
-/// Closes the open batch, of which a crash may leave a part. Nothing is undone. Where none is open the answer is NO_BATCH.
+/// Closes the open batch, of which a crash may leave a part. Nothing is undone. Returns `NO_BATCH` if none is open.
 pub fn cancel<F: CallersFile>(store: &mut Store<F>) -> u32
     ensures { ThroughStore store.old store.new result ⊤
         (λ _ g old new status. Closes g old new (CancelsBatch g) status) }

@@ -7,7 +7,7 @@ use crate::status::{MEMORY, OK, WRITE};
 use crate::store::Store;
 use sled_disk::{CallersFile, Task};
 
-/// What the program does next to the file.
+/// The next task that the program has to do on the file.
 #[repr(C)]
 #[derive(Clone, Copy)]
 pub struct FileTask {
@@ -15,11 +15,14 @@ pub struct FileTask {
     pub kind: u32,
     /// The place of the first byte of a write.
     pub at: u64,
-    /// How many bytes a write has, which stand at the front of the buffer.
+    /// How many bytes a write has. They are at the front of the buffer.
     pub len: usize,
 }
 
-/// Writes what the program does next to the file, and the bytes of a write to the front of the buffer.
+/// Writes the next task that the program has to do on the file, and the bytes of a write to the front of the buffer. If there is none, as always in
+/// memory, the task has kind 0.
+///
+/// Returns `WRITE`, and writes nothing, if a write or a sync failed.
 pub fn next_task<F: CallersFile>(
     store: &mut Store<F>,
     task: &mut FileTask,
@@ -56,7 +59,9 @@ fn task_of(task: Option<Task>) -> FileTask
     }
 }
 
-/// Writes the place of the bytes that are needed and how many they are, or 0 where none are.
+/// Writes the place and the number of the bytes of the file that are needed, or 0 if none are, as always in memory.
+///
+/// Returns `WRITE`, and writes nothing, if a write or a sync failed.
 pub fn needs<F: CallersFile>(store: &mut Store<F>, at: &mut u64, len: &mut usize) -> u32
     ensures { AsksStore store.old store.new result
         ((at.new ≡ at.old) × (len.new ≡ len.old)) ((at.new ≡ 0) × (len.new ≡ 0))
@@ -69,7 +74,9 @@ pub fn needs<F: CallersFile>(store: &mut Store<F>, at: &mut u64, len: &mut usize
     OK
 }
 
-/// Hands in bytes of the file, from a place on, or answers MEMORY where there is none for them.
+/// Hands in bytes of the file, from a place on. In memory this does nothing.
+///
+/// Returns `MEMORY` if there is no memory for them, and `WRITE` if a write or a sync failed.
 pub fn hand_in<F: CallersFile>(store: &mut Store<F>, at: u64, bytes: &[u8]) -> u32
     requires word { F.tells → AreIn at bytes.now (disk_in store.old) }
     ensures { HandsInStore at bytes.now store.old store.new result }

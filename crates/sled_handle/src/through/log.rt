@@ -1,4 +1,4 @@
-//! Generated ids, and what is asked of the whole log.
+//! Generated ids, and calls on the whole log.
 
 ghost use Rattle.std.specs.Prelude.{◌≡◌};
 ghost use Rattle.sled_handle.specs.Handles.{InMemory, ThroughStore};
@@ -11,7 +11,7 @@ use crate::store::Store;
 use sled_disk::CallersFile;
 use sled_pagecache::{Log, MemLog};
 
-/// Writes an id that was never given.
+/// Writes an id that was never returned before.
 pub fn generate_id<F: CallersFile>(store: &mut Store<F>, id: &mut u64) -> u32
     ensures { ThroughStore store.old store.new result (id.new ≡ id.old)
         (λ _ g old new status. GivesId g old new status id.old id.new) }
@@ -19,7 +19,7 @@ pub fn generate_id<F: CallersFile>(store: &mut Store<F>, id: &mut u64) -> u32
     through!(store, cache => calls::generate_id(cache, id))
 }
 
-/// Makes all that is pending durable, and writes how many bytes that wrote.
+/// Makes everything pending durable, and writes how many bytes that wrote.
 pub fn flush<F: CallersFile>(store: &mut Store<F>, written: &mut usize) -> u32
     ensures { ThroughStore store.old store.new result (written.new ≡ written.old)
         (λ _ g old new status. MakesStable g old new status written.old written.new) }
@@ -35,7 +35,7 @@ pub fn size<F: CallersFile>(store: &mut Store<F>, bytes: &mut u64) -> u32
     through!(store, cache => calls::size(cache, bytes))
 }
 
-/// Writes how many bytes of the log the messages take that make the pages.
+/// Writes how many bytes of the log are taken by the messages that make the pages, at most `u64::MAX`.
 pub fn live<F: CallersFile>(store: &mut Store<F>, bytes: &mut u64) -> u32
     ensures { ThroughStore store.old store.new result (bytes.new ≡ bytes.old)
         (λ _ g old new status. TellsLive g old new status bytes.new) }
@@ -43,7 +43,7 @@ pub fn live<F: CallersFile>(store: &mut Store<F>, bytes: &mut u64) -> u32
     through!(store, cache => calls::live(cache, bytes))
 }
 
-/// Writes how many bytes the log has, and how many the pages would take, at most `u64::MAX`. It isn't made over a file.
+/// Writes how many bytes the log has, and how many the pages would take, at most `u64::MAX`. It isn't available over a file.
 pub fn amp<F: CallersFile>(store: &mut Store<F>, log: &mut u64, pages: &mut u64) -> u32
     ensures { InMemory store.old store.new result
         ((log.new ≡ log.old) × (pages.new ≡ pages.old))
@@ -55,7 +55,7 @@ pub fn amp<F: CallersFile>(store: &mut Store<F>, log: &mut u64, pages: &mut u64)
     in_memory!(store, cache => calls::amplification(cache, log, pages))
 }
 
-/// Moves the page that is due, and writes whether there was one. It isn't made over a file.
+/// Moves the page that is due, and writes whether there was one. It isn't available over a file.
 pub fn gc<F: CallersFile>(store: &mut Store<F>, moved: &mut bool) -> u32
     ensures { InMemory store.old store.new result (moved.new ≡ moved.old)
         (λ old new status. MovesDue ⟦<MemLog as Log>⟧ old new status moved.old moved.new) }
@@ -63,7 +63,7 @@ pub fn gc<F: CallersFile>(store: &mut Store<F>, moved: &mut bool) -> u32
     in_memory!(store, cache => calls::attempt_gc(cache, moved))
 }
 
-/// Writes whether the log had the cache's own pages as it was opened.
+/// Writes whether the log had the cache's own pages when it was opened.
 pub fn was_recovered<F: CallersFile>(store: &mut Store<F>, recovered: &mut bool) -> u32
     ensures { ThroughStore store.old store.new result (recovered.new ≡ recovered.old)
         (λ _ g old new status. TellsRecovered g old new status recovered.new) }

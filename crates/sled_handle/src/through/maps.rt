@@ -1,4 +1,4 @@
-//! Ordered maps by names. A name that has no map is one of an empty map, and is given a map where something is put there.
+//! Ordered maps by names. A name without a map reads as an empty map, and gets a map when a value is set.
 
 ghost use Rattle.std.specs.Prelude.{◌≡◌, ⊤};
 ghost use Rattle.std.specs.Option.{option_map};
@@ -13,8 +13,8 @@ use crate::store::Store;
 use sled_disk::CallersFile;
 use std::alloc::Global;
 
-/// Writes the value of a key, and how many bytes it has, or answers NONE. Where the buffer is too short that number is written alone, and the
-/// answer is SHORT.
+/// Writes the value of a key, and its length. Returns `NONE` if the key has no value, and `SHORT` if the buffer is too short: then only the length is
+/// written.
 pub fn get<F: CallersFile>(
     alloc: Global,
     store: &mut Store<F>,
@@ -32,8 +32,8 @@ pub fn get<F: CallersFile>(
     through!(store, cache => calls::get(alloc, cache, name, key, buffer, needed))
 }
 
-/// Sets the value of a key, and writes whether it had one before. A name that has no map is given one. KEY_TOO_LONG and VALUE_TOO_LONG come
-/// before that.
+/// Sets the value of a key, and writes whether it had one before. A name without a map gets one. Returns `KEY_TOO_LONG` or `VALUE_TOO_LONG` before a
+/// map is made.
 pub fn set<F: CallersFile>(
     alloc: Global,
     store: &mut Store<F>,
@@ -48,7 +48,7 @@ pub fn set<F: CallersFile>(
     through!(store, cache => calls::set(alloc, cache, name, key, value, had))
 }
 
-/// Takes a key out, and writes whether it had a value before.
+/// Removes a key, and writes whether it had a value.
 pub fn del<F: CallersFile>(store: &mut Store<F>, name: &[u8], key: &[u8], had: &mut bool) -> u32
     ensures { ThroughStore store.old store.new result (had.new ≡ had.old)
         (λ _ g old new status. TakesOfMap g old new name.now key.now status had.old had.new) }
@@ -56,8 +56,8 @@ pub fn del<F: CallersFile>(store: &mut Store<F>, name: &[u8], key: &[u8], had: &
     through!(store, cache => calls::del(cache, name, key, had))
 }
 
-/// Sets the value of a key, or takes the key out, where it has the old value, or none. Where it has another one, or none, nothing changes, and
-/// the answer is STALE.
+/// Sets the value of a key to `new`, or removes the key if that is `None`, provided that its value is `old`, or that it has none if that is `None`.
+/// Otherwise returns `STALE`, and nothing changes.
 pub fn cas<F: CallersFile>(
     alloc: Global,
     store: &mut Store<F>,
@@ -73,8 +73,8 @@ pub fn cas<F: CallersFile>(
     through!(store, cache => calls::cas(alloc, cache, name, key, old, new))
 }
 
-/// Writes the nearest pair on a side of a key, or at an end of the map, and how many bytes it takes, or answers NONE. Where the buffer is too
-/// short that number is written alone, and the answer is SHORT. A number that stands for no side is answered by ARGUMENTS.
+/// Writes the nearest pair on a side of a key, or at an end of the map, and its length. Returns `NONE` if there is no such pair, `SHORT` if the
+/// buffer is too short, where only the length is written, and `ARGUMENTS` if `side` names no side.
 pub fn next<F: CallersFile>(
     alloc: Global,
     store: &mut Store<F>,
@@ -93,9 +93,9 @@ pub fn next<F: CallersFile>(
     through!(store, cache => calls::next(alloc, cache, name, side, bound, buffer, needed))
 }
 
-/// Writes the first pairs within the bounds, those that one leaf has, and behind them the key from which on the others are, if there are any;
-/// and how many and how long these are. Where the buffer is too short that is written alone, and the answer is SHORT. A number that stands for
-/// no kind of a bound is answered by ARGUMENTS.
+/// Writes the first pairs between the bounds, those of one leaf, followed by the key at which the others begin, if there are any. It also writes the
+/// number of pairs, both lengths, and whether there are others. Returns `SHORT` if the buffer is too short, where only these values are written, and
+/// `ARGUMENTS` if a kind names no kind of bound.
 pub fn range<F: CallersFile>(
     alloc: Global,
     store: &mut Store<F>,
@@ -111,7 +111,7 @@ pub fn range<F: CallersFile>(
     through!(store, cache => calls::range(alloc, cache, name, bounds, buffer, piece))
 }
 
-/// The same without the pairs: the key from which on the others are is written alone.
+/// Does the same without the pairs: only the key at which the others begin is written to the buffer.
 pub fn count<F: CallersFile>(
     alloc: Global,
     store: &mut Store<F>,
@@ -127,7 +127,7 @@ pub fn count<F: CallersFile>(
     through!(store, cache => calls::count(alloc, cache, name, bounds, buffer, piece))
 }
 
-/// Takes away the map of a name with all that it has, and writes whether there was one.
+/// Drops the map of a name with all its pairs, and writes whether there was one.
 pub fn drop_map<F: CallersFile>(
     alloc: Global,
     store: &mut Store<F>,
@@ -140,8 +140,8 @@ pub fn drop_map<F: CallersFile>(
     through!(store, cache => calls::drop_map(alloc, cache, name, had))
 }
 
-/// Writes the first name of a map behind this one, by its bytes, or the first of all, and how many bytes it has, or answers NONE. Where the
-/// buffer is too short that number is written alone, and the answer is SHORT.
+/// Writes the first name after `after`, in the order of their bytes, or the first of all if that is `None`, and its length. Returns `NONE` if there
+/// is no such name, and `SHORT` if the buffer is too short: then only the length is written.
 pub fn next_name<F: CallersFile>(
     alloc: Global,
     store: &mut Store<F>,

@@ -13,8 +13,8 @@ use crate::store::Store;
 use sled_disk::CallersFile;
 use std::alloc::Global;
 
-/// Begins with a file of so many bytes, of which nothing is read yet. The error is the status: what is wrong with the settings is told before
-/// anything is done, and else there is no memory.
+/// Begins to open a file of `len` bytes, of which nothing is read yet. The error is a status: that of an invalid setting, which is checked before
+/// anything is done, or of a failed allocation.
 pub fn begin<F: CallersFile>(
     alloc: Global,
     settings: FileSettings,
@@ -33,8 +33,8 @@ pub fn begin<F: CallersFile>(
     Box::new(alloc, Store::Begun(opening)).map_err(|_| MEMORY)
 }
 
-/// Goes on with an opening until its cache is open, and answers OK then, or NEEDS where bytes of the file are needed first. A store with a
-/// cache stays, and the answer is ALREADY_OPEN. Behind an error, which is the status, the handle is to be closed.
+/// Continues an opening until its cache is open. Returns `OK` then, `NEEDS` if bytes of the file are needed first, and `ALREADY_OPEN` if the store
+/// has a cache, which stays. The error is the status of a failure: then the caller must close the handle.
 pub fn go_on<F: CallersFile>(alloc: Global, store: &mut Store<F>) -> Result<u32, u32>
     ensures goes_on { IfOk result (GoesOnIn store.old store.new) }
     ensures over { F.tells → (config : Config) (bytes : List ℕ) → IsStoreOver config bytes store.old
@@ -54,7 +54,7 @@ pub fn go_on<F: CallersFile>(alloc: Global, store: &mut Store<F>) -> Result<u32,
     }
 }
 
-/// The same until its log is read: no cache is opened over that.
+/// Does the same until the log is read, and opens no cache over it.
 pub fn read_on<F: CallersFile>(alloc: Global, store: &mut Store<F>) -> Result<u32, u32>
     ensures reads_on { IfOk result (ReadsOnIn store.old store.new) }
     ensures over { F.tells → (config : Config) (bytes : List ℕ) → IsStoreOver config bytes store.old

@@ -1,4 +1,4 @@
-//! Making, reading, changing and freeing a page.
+//! Allocating, reading, changing and freeing a page.
 
 ghost use Rattle.std.specs.Prelude.{◌≡◌};
 ghost use Rattle.sled_handle.specs.Handles.{ThroughStore};
@@ -15,7 +15,7 @@ use crate::store::Store;
 use sled_disk::CallersFile;
 use std::alloc::Global;
 
-/// Puts a leaf of the pairs on a page, and writes which page and its stamp. Bytes that encode no such pairs are answered by ARGUMENTS.
+/// Allocates a page with a leaf of the pairs, and writes its number and its stamp. Returns `ARGUMENTS` if the bytes encode no such pairs.
 pub fn allocate<F: CallersFile>(
     alloc: Global,
     store: &mut Store<F>,
@@ -31,7 +31,7 @@ pub fn allocate<F: CallersFile>(
     through!(store, cache => calls::allocate(alloc, cache, pairs, page, stamp))
 }
 
-/// Writes what a page is, and its pairs. Where the buffer is too short the first is written alone, and the answer is SHORT.
+/// Writes what a page is, and its pairs. Returns `SHORT` if the buffer is too short: then only the first is written.
 pub fn get<F: CallersFile>(
     store: &mut Store<F>,
     page: u64,
@@ -46,8 +46,8 @@ pub fn get<F: CallersFile>(
     through!(store, cache => calls::get(cache, page, found, buffer))
 }
 
-/// Writes the value of one key of a leaf, and the stamp of the page. Where the buffer is too short how many bytes are needed is written, and the
-/// answer is SHORT.
+/// Writes the value of a key of a leaf, its length, and the stamp of the page. Returns `SHORT` if the buffer is too short: then the length and the
+/// stamp are written.
 pub fn value<F: CallersFile>(
     store: &mut Store<F>,
     page: u64,
@@ -64,8 +64,8 @@ pub fn value<F: CallersFile>(
     through!(store, cache => calls::value(cache, page, key, stamp, buffer, needed))
 }
 
-/// Maps a key of a leaf to a value, where the page is still at the stamp, and writes the stamp that it has now. Where it has another stamp that
-/// is written, nothing changes, and the answer is STALE.
+/// Sets a key of a leaf to a value, if the page has the expected stamp, and writes its new stamp. If it has another stamp, writes that and returns
+/// `STALE`, and nothing changes.
 pub fn set<F: CallersFile>(
     alloc: Global,
     store: &mut Store<F>,
@@ -81,7 +81,7 @@ pub fn set<F: CallersFile>(
     through!(store, cache => calls::set(alloc, cache, page, stamp, key, value))
 }
 
-/// Takes a key out of a leaf, likewise.
+/// Removes a key from a leaf, if the page has the expected stamp, as `set` does.
 pub fn del<F: CallersFile>(
     alloc: Global,
     store: &mut Store<F>,
@@ -95,7 +95,8 @@ pub fn del<F: CallersFile>(
     through!(store, cache => calls::del(alloc, cache, page, stamp, key))
 }
 
-/// Puts a leaf of the pairs on a page in place of what it held, likewise.
+/// Replaces the contents of a page with a leaf of the pairs, if the page has the expected stamp, as `set` does. Returns `ARGUMENTS` if the bytes
+/// encode no such pairs.
 pub fn replace<F: CallersFile>(
     alloc: Global,
     store: &mut Store<F>,
@@ -109,7 +110,7 @@ pub fn replace<F: CallersFile>(
     through!(store, cache => calls::replace(alloc, cache, page, stamp, pairs))
 }
 
-/// Frees a page, likewise.
+/// Frees a page, if it has the expected stamp, as `set` does.
 pub fn free<F: CallersFile>(store: &mut Store<F>, page: u64, stamp: &mut u64) -> u32
     ensures { ThroughStore store.old store.new result (stamp.new ≡ stamp.old)
         (λ _ g old new status. FreesPage g old new page status stamp.old stamp.new) }

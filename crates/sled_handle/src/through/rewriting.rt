@@ -1,4 +1,4 @@
-//! Rewriting a cache into another log, which takes no more than its pages do.
+//! Rewriting a cache into another log, which is no larger than its pages need.
 
 ghost use Rattle.std.specs.Prelude.{◌≡◌, ⊤};
 ghost use Rattle.sled_handle.specs.Handles.{InMemory, ThroughStore};
@@ -13,9 +13,11 @@ use sled_disk::CallersFile;
 use sled_pagecache::{Log, PageCache};
 use std::alloc::Global;
 
-/// Writes the pages of a cache to the new log of a file, of another caller or of the same, and makes them stable there. The cache stays as it
-/// is. Where it refuses to be rewritten the other store is let go; where that has a cache the answer is ALREADY_OPEN, where it has no new log
-/// CLOSED, and both stay.
+/// Writes the pages of a cache to the new log of a file, of another caller or of the same, and makes them durable there. The cache stays as it is. If
+/// the rewrite fails, the other store is dropped.
+///
+/// Returns `ALREADY_OPEN` if the other store has a cache, and `CLOSED` if there is no other store, or if it has no new log. Then both stay as they
+/// are, and so they do at `WRITE` if a write or a sync of the cache's own file had failed before.
 pub fn rewrite<F: CallersFile, G: CallersFile>(
     store: &mut Store<F>,
     into: &mut Option<Box<Store<G>>>,
@@ -53,8 +55,8 @@ fn rewrite_into<L: Log, G: CallersFile>(
     status
 }
 
-/// Rewrites a cache in memory into a new log, and opens one over that in its place, once the settings are found to be right. Where that fails
-/// the cache goes on as it was.
+/// Rewrites a cache in memory into a new log, and replaces it with a cache that is opened over that log. The settings are checked first. If a step
+/// fails, the cache continues as it was.
 pub fn compact<F: CallersFile>(alloc: Global, store: &mut Store<F>, settings: Settings) -> u32
     ensures { InMemory store.old store.new result ⊤
         (λ old new status. Compacts settings old new status) }

@@ -11,7 +11,7 @@ use crate::store::Store;
 use sled_disk::CallersFile;
 use std::alloc::Global;
 
-/// Writes the root page of a name, or answers NONE.
+/// Writes the root page of a name. Returns `NONE` if it has none.
 pub fn root<F: CallersFile>(store: &mut Store<F>, name: &[u8], page: &mut u64) -> u32
     ensures { ThroughStore store.old store.new result (page.new ≡ page.old)
         (λ _ g old new status. FindsRoot g old new name.now status page.old page.new) }
@@ -19,8 +19,8 @@ pub fn root<F: CallersFile>(store: &mut Store<F>, name: &[u8], page: &mut u64) -
     through!(store, cache => calls::root(cache, name, page))
 }
 
-/// Gives a name another root, where page 0 stands for none. Where it has another one than is given that is written, nothing changes, and the
-/// answer is STALE.
+/// Gives a name the root `next`, if its root is `root`. Page 0 means no root. If the name has another root, writes that to `root` and returns
+/// `STALE`, and nothing changes.
 pub fn cas_root<F: CallersFile>(store: &mut Store<F>, name: &[u8], root: &mut u64, next: u64) -> u32
     ensures { ThroughStore store.old store.new result (root.new ≡ root.old)
         (λ _ g old new status. SwapsRoot g old new name.now next status root.old root.new) }
@@ -28,7 +28,7 @@ pub fn cas_root<F: CallersFile>(store: &mut Store<F>, name: &[u8], root: &mut u6
     through!(store, cache => calls::cas_root(cache, name, root, next))
 }
 
-/// Writes the root page of a name. A name that has none is given an index over an empty leaf.
+/// Writes the root page of a name. A name that has none gets an index over an empty leaf.
 pub fn open_tree<F: CallersFile>(
     alloc: Global,
     store: &mut Store<F>,

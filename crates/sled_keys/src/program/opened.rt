@@ -1,4 +1,4 @@
-//! The script over maps that are opened: in memory, or in a file.
+//! The script over maps in memory or in a file.
 
 ghost use Rattle.std.specs.Prelude.{◌≡◌, true, false};
 ghost use Rattle.sled_log.specs.Events.{is_open};
@@ -11,18 +11,18 @@ use std::alloc::{AllocGlobal, Global};
 use std::fs::{File, Files};
 use std::io::{BufReader, Read, Write};
 
-/// The settings of every cache that the program opens. The capacity, which is sled's own, is no more than a bound: memory is taken as pages
-/// are used. What isn't flushed yet is written to the file, and synced, a mebibyte at a time.
+/// The settings of every cache that the program opens. The capacity, which is sled's own, is only a bound: memory is allocated as pages are used.
+/// What isn't flushed yet is written to the file, and synced, a mebibyte at a time.
 const CONFIG: Config = Config {
     cache_capacity: 1_073_741_824,
     idgen_persist_interval: 10,
     segment_size: 1_048_576,
 };
 
-/// Payloads above this many bytes are blobs in memory.
+/// Payloads of more than this many bytes are kept as blobs in memory.
 const BLOB_LIMIT: usize = 512;
 
-/// A page is moved for so many messages.
+/// One page is due to be moved for each of this many messages.
 const CLEAN_EVERY: u64 = 16;
 
 /// Runs the script over maps in memory.
@@ -39,7 +39,7 @@ pub fn serve_memory<R: Read, W: Write>(
     )
 }
 
-/// Runs the script over the maps in the file of a path, which is made where there is none.
+/// Runs the script over the maps in a file, which is created if it doesn't exist.
 pub fn serve_file<H: Files<File = File> + AllocGlobal, R: Read, W: Write>(
     rt: &H,
     path: &str,
@@ -52,7 +52,7 @@ pub fn serve_file<H: Files<File = File> + AllocGlobal, R: Read, W: Write>(
     }
 }
 
-/// Runs the script over the maps in the log that a disk holds. A disk that has no bytes is given a log of no messages.
+/// Runs the script over the maps in the log of a disk. An empty disk gets an empty log.
 pub fn serve_disk<D: Disk, R: Read, W: Write>(
     alloc: Global,
     mut disk: D,

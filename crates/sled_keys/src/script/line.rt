@@ -1,11 +1,9 @@
-//! One line of the script.
+//! Serving one line of the script.
 
 use super::RunError;
 use super::ordered::{Side, serve_end, serve_next, serve_scan};
 use super::values::{serve_del, serve_get, serve_set, serve_swap};
-use super::whole::{
-    serve_cancel, serve_drop, serve_flush, serve_id, serve_len, serve_maps, serve_pin, serve_seal,
-};
+use super::whole::{reply_done, reply_names, reply_number, serve_drop, serve_flush, serve_len};
 use crate::replies::Replies;
 use crate::words::Rooms;
 use sled_lines::words::first_word;
@@ -13,7 +11,7 @@ use sled_tree::{Log, Trees};
 use std::alloc::Global;
 use std::io::Write;
 
-/// Serves one line: its reply is put behind those that were gathered.
+/// Serves one line, and appends its reply to the gathered ones.
 pub fn serve_line<L: Log, W: Write>(
     alloc: Global,
     trees: &mut Trees<L>,
@@ -35,11 +33,11 @@ fn serve_word<L: Log, W: Write>(
 ) -> Result<(), RunError> {
     match command {
         b"flush" => serve_flush(trees, replies),
-        b"id" => serve_id(trees, replies),
-        b"pin" => serve_pin(trees, replies),
-        b"seal" => serve_seal(trees, replies),
-        b"cancel" => serve_cancel(trees, replies),
-        b"maps" => serve_maps(trees, replies),
+        b"id" => reply_number(&trees.generate_id(), b"id ", replies),
+        b"pin" => reply_done(&trees.pin(), replies),
+        b"seal" => reply_done(&trees.seal(), replies),
+        b"cancel" => reply_done(&trees.cancel(), replies),
+        b"maps" => reply_names(&trees.names(), replies),
         _ => refuse(replies),
     }
 }
@@ -69,7 +67,7 @@ fn serve_words<L: Log, W: Write>(
     }
 }
 
-/// Replies to a line that asks for nothing that it may ask for.
+/// Appends the reply `error line`, to a line that is no command.
 pub fn refuse<W: Write>(replies: &mut Replies<'_, W>) -> Result<(), RunError> {
     Ok(replies.text(b"error line\n")?)
 }

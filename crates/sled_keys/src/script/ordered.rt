@@ -1,9 +1,9 @@
-//! Lines about the pairs of a map in the order of their keys.
+//! Lines about the pairs of a map in key order.
 
 use super::RunError;
 use super::line::refuse;
 use crate::replies::Replies;
-use crate::words::{Rooms, bytes_of};
+use crate::words::{Rooms, bytes_of, named_key};
 use sled_lines::words::{number_of, two_words};
 use sled_tree::named::{above, below, first, last, range};
 use sled_tree::{IVec, Log, Piece, TreeError, Trees};
@@ -11,17 +11,17 @@ use std::alloc::Global;
 use std::io::Write;
 use std::ops::Bound;
 
-/// A scan asks for at most so many pairs.
+/// The greatest number of pairs that a scan may ask for.
 const MOST_PAIRS: u64 = 1_000;
 
-/// On which side of a bound a pair is looked for.
+/// The side of a bound on which a pair is looked for.
 #[derive(Clone, Copy)]
 pub enum Side {
     Above,
     Below,
 }
 
-/// `first NAME` looks above all keys' lower end, and `last NAME` below their upper one.
+/// Serves `first NAME`, which looks for the pair with the least key, and `last NAME`, which looks for the one with the greatest key.
 pub fn serve_end<L: Log, W: Write>(
     trees: &mut Trees<L>,
     rooms: &mut Rooms,
@@ -38,7 +38,7 @@ pub fn serve_end<L: Log, W: Write>(
     }
 }
 
-/// `above NAME KEY` and `below NAME KEY`
+/// Serves `above NAME KEY` and `below NAME KEY`.
 pub fn serve_next<L: Log, W: Write>(
     alloc: Global,
     trees: &mut Trees<L>,
@@ -47,13 +47,7 @@ pub fn serve_next<L: Log, W: Write>(
     side: Side,
     replies: &mut Replies<'_, W>,
 ) -> Result<(), RunError> {
-    let Some((name, key)) = two_words(Some(words)) else {
-        return refuse(replies);
-    };
-    let Some(name) = bytes_of(name, &mut rooms.name)? else {
-        return refuse(replies);
-    };
-    let Some(key) = bytes_of(key, &mut rooms.key)? else {
+    let Some((name, key)) = named_key(words, rooms)? else {
         return refuse(replies);
     };
     let key = IVec::from_slice(alloc, key)?;
@@ -63,7 +57,7 @@ pub fn serve_next<L: Log, W: Write>(
     }
 }
 
-/// `scan NAME FROM COUNT`
+/// Serves `scan NAME FROM COUNT`.
 pub fn serve_scan<L: Log, W: Write>(
     alloc: Global,
     trees: &mut Trees<L>,

@@ -5,14 +5,14 @@ ghost use Rattle.std.specs.Prelude.{◌≤◌, length};
 use super::RunError;
 use super::line::refuse;
 use crate::replies::Replies;
-use crate::words::{Rooms, bytes_of};
+use crate::words::{Rooms, bytes_of, named_key};
 use sled_lines::words::two_words;
 use sled_tree::named::{get, remove, set, swap};
 use sled_tree::{IVec, Limits, Log, TreeError, Trees};
 use std::alloc::{AllocError, Global};
 use std::io::Write;
 
-/// `get NAME KEY`
+/// Serves `get NAME KEY`.
 pub fn serve_get<L: Log, W: Write>(
     alloc: Global,
     trees: &mut Trees<L>,
@@ -20,13 +20,7 @@ pub fn serve_get<L: Log, W: Write>(
     words: &[u8],
     replies: &mut Replies<'_, W>,
 ) -> Result<(), RunError> {
-    let Some((name, key)) = two_words(Some(words)) else {
-        return refuse(replies);
-    };
-    let Some(name) = bytes_of(name, &mut rooms.name)? else {
-        return refuse(replies);
-    };
-    let Some(key) = bytes_of(key, &mut rooms.key)? else {
+    let Some((name, key)) = named_key(words, rooms)? else {
         return refuse(replies);
     };
     reply_value(
@@ -37,20 +31,14 @@ pub fn serve_get<L: Log, W: Write>(
     )
 }
 
-/// `del NAME KEY`
+/// Serves `del NAME KEY`.
 pub fn serve_del<L: Log, W: Write>(
     trees: &mut Trees<L>,
     rooms: &mut Rooms,
     words: &[u8],
     replies: &mut Replies<'_, W>,
 ) -> Result<(), RunError> {
-    let Some((name, key)) = two_words(Some(words)) else {
-        return refuse(replies);
-    };
-    let Some(name) = bytes_of(name, &mut rooms.name)? else {
-        return refuse(replies);
-    };
-    let Some(key) = bytes_of(key, &mut rooms.key)? else {
+    let Some((name, key)) = named_key(words, rooms)? else {
         return refuse(replies);
     };
     reply_value(
@@ -61,7 +49,7 @@ pub fn serve_del<L: Log, W: Write>(
     )
 }
 
-/// `set NAME KEY VALUE`
+/// Serves `set NAME KEY VALUE`.
 pub fn serve_set<L: Log, W: Write>(
     alloc: Global,
     trees: &mut Trees<L>,
@@ -90,7 +78,7 @@ pub fn serve_set<L: Log, W: Write>(
     )
 }
 
-/// `cas NAME KEY OLD NEW`
+/// Serves `cas NAME KEY OLD NEW`.
 pub fn serve_swap<L: Log, W: Write>(
     alloc: Global,
     trees: &mut Trees<L>,

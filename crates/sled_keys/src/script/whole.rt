@@ -1,4 +1,4 @@
-//! Lines about whole maps, and about all of them.
+//! Lines about a whole map, or about all maps.
 
 ghost use Rattle.std.specs.Prelude.{◌≤◌, length};
 
@@ -10,7 +10,7 @@ use sled_tree::named::count;
 use sled_tree::{IVec, Log, TreeError, Trees};
 use std::io::Write;
 
-/// `len NAME`
+/// Serves `len NAME`.
 pub fn serve_len<L: Log, W: Write>(
     trees: &mut Trees<L>,
     rooms: &mut Rooms,
@@ -23,7 +23,7 @@ pub fn serve_len<L: Log, W: Write>(
     reply_number(&count(trees.cache_mut(), name), b"len ", replies)
 }
 
-/// `drop NAME`
+/// Serves `drop NAME`.
 pub fn serve_drop<L: Log, W: Write>(
     trees: &mut Trees<L>,
     rooms: &mut Rooms,
@@ -41,23 +41,7 @@ pub fn serve_drop<L: Log, W: Write>(
     Ok(())
 }
 
-/// `maps`
-pub fn serve_maps<L: Log, W: Write>(
-    trees: &mut Trees<L>,
-    replies: &mut Replies<'_, W>,
-) -> Result<(), RunError> {
-    reply_names(&trees.names(), replies)
-}
-
-/// `id`
-pub fn serve_id<L: Log, W: Write>(
-    trees: &mut Trees<L>,
-    replies: &mut Replies<'_, W>,
-) -> Result<(), RunError> {
-    reply_number(&trees.generate_id(), b"id ", replies)
-}
-
-/// `flush`
+/// Serves `flush`.
 pub fn serve_flush<L: Log, W: Write>(
     trees: &mut Trees<L>,
     replies: &mut Replies<'_, W>,
@@ -69,31 +53,8 @@ pub fn serve_flush<L: Log, W: Write>(
     Ok(())
 }
 
-/// `pin`
-pub fn serve_pin<L: Log, W: Write>(
-    trees: &mut Trees<L>,
-    replies: &mut Replies<'_, W>,
-) -> Result<(), RunError> {
-    reply_done(&trees.pin(), replies)
-}
-
-/// `seal`
-pub fn serve_seal<L: Log, W: Write>(
-    trees: &mut Trees<L>,
-    replies: &mut Replies<'_, W>,
-) -> Result<(), RunError> {
-    reply_done(&trees.seal(), replies)
-}
-
-/// `cancel`
-pub fn serve_cancel<L: Log, W: Write>(
-    trees: &mut Trees<L>,
-    replies: &mut Replies<'_, W>,
-) -> Result<(), RunError> {
-    reply_done(&trees.cancel(), replies)
-}
-
-fn reply_done<W: Write>(
+/// Appends the reply to a call that answers nothing: `ok`, or the error.
+pub fn reply_done<W: Write>(
     answer: &Result<(), TreeError>,
     replies: &mut Replies<'_, W>,
 ) -> Result<(), RunError> {
@@ -104,7 +65,8 @@ fn reply_done<W: Write>(
     Ok(())
 }
 
-fn reply_number<W: Write>(
+/// Appends the reply to a call that answers a number: the label and the number, or the error.
+pub fn reply_number<W: Write>(
     answer: &Result<u64, TreeError>,
     label: &[u8],
     replies: &mut Replies<'_, W>,
@@ -118,7 +80,8 @@ fn reply_number<W: Write>(
     Ok(())
 }
 
-fn reply_names<W: Write>(
+/// Appends the reply to `maps`: all names, or the error.
+pub fn reply_names<W: Write>(
     answer: &Result<Vec<IVec>, TreeError>,
     replies: &mut Replies<'_, W>,
 ) -> Result<(), RunError> {

@@ -1,4 +1,4 @@
--- The blobs that a log in memory keeps, and the messages that held them first.
+-- The blobs that a log in memory stores, and the messages that held them first.
 use Rattle.std.specs.Prelude.{◌==◌, ◌&&◌, ℕ, ℤ, pos, Bool, true, false, List, [], ◌∷◌, ◌++◌, map}
 use Rattle.std.specs.Ordering.{int_eq}
 use Rattle.std.specs.List.{list_any}
@@ -36,7 +36,7 @@ is_held marks kept.Pin = true
 is_held marks kept.Seal = true
 is_held marks kept.Cancel = true
 
--- whether each of these is so, behind others and those up to it
+-- whether that is so for each of these, after others and those before it
 abbrev pub are_held : List Mark → List Mark → Bool
 are_held before [] = true
 are_held before (mark ∷ marks) = is_held (before ++ mark ∷ []) mark && are_held (before ++ mark ∷ []) marks

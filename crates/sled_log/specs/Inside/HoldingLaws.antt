@@ -48,7 +48,7 @@ makes-full : (messages : Messages) (node : WholeNode) → Makes messages (Node n
 makes-full [] node h = absurd h
 makes-full (m ∷ messages) node (first, reads, leads) = ap is_freeing (reads_effect m.kind m.payload (Put first) reads) ∙ not_freed first messages node leads
 
--- a link more
+-- one more link
 lead-more : (before : Content) (messages : Messages) (node : WholeNode) (m : Message) (link : NodeLink)
     → LeadTo before messages (Node node) → IsUpdate m (Link link) → Accepts node link → LeadTo before (messages ++ m ∷ []) (Node (applied link node))
 lead-more before [] node m link h r accepts = (node, link, h, r, accepts, refl)
@@ -65,7 +65,7 @@ makes-linked : (messages : Messages) (node : WholeNode) (m : Message) (link : No
 makes-linked messages node m link h r accepts =
     subst (λ b. Makes (cond b messages (messages ++ m ∷ [])) (Node (applied link node))) (sym (makes-full messages node h)) (makes-more messages node m link h r accepts)
 
--- no payload reads what is damaged
+-- no payload decodes to a damaged content
 puts-sound : (kind : MessageKind) (payload : List ℕ) (first : Content) → Decodes kind payload (Put first) → is_damaged first ≡ false
 puts-sound kind payload Free reads = refl
 puts-sound kind payload (Counter n) reads = refl
@@ -98,7 +98,7 @@ counts-read m (Put (Node node)) r = r
 counts-read m (Put Damaged) r = absurd (false≢true (sym (puts-sound m.kind m.payload Damaged r)))
 counts-read m (Link link) r = r
 
--- what it does to its page is what that does
+-- a message has the effect of what it counts as
 pub counts_effect : (m : Message) (u : Update) → CountsAs m u → effect_of m ≡ effect_of_update u
 counts_effect m (Put Free) r = reads_effect m.kind m.payload (Put Free) r
 counts_effect m (Put (Counter n)) r = reads_effect m.kind m.payload (Put (Counter n)) r
@@ -115,7 +115,7 @@ counts-holds m (Roots roots) r = (Roots roots, r, refl)
 counts-holds m (Node node) r = (Node node, r, refl)
 counts-holds m Damaged r = (ap is_freeing r.0, λ content made. r.1 made.0 made.1)
 
--- The one message of a page, where it puts something, counts as putting what the page holds.
+-- The only message of a page, if it puts a content, counts as putting what the page holds.
 pub holds-counts : (m : Message) (content : Content) → effect_of m ≡ Replace → Holds (m ∷ []) content → CountsAs m (Put content)
 holds-counts m Free puts (first, reads, is) = subst (λ c. IsUpdate m (Put c)) is reads
 holds-counts m (Counter n) puts (first, reads, is) = subst (λ c. IsUpdate m (Put c)) is reads

@@ -12,18 +12,18 @@ use Rattle.sled_log.specs.MemLog.Items.{WasLeft, size_of_mark, state_at, was_sta
 
 -- ---- places
 
--- whether a change stands at that place; a mark has none
+-- whether a change is at that place; a mark has no place
 abbrev pub stands_at : ℕ → Mark → Bool
 stands_at place (kept.Change change) = offset_of change.pointer == place
 stands_at place kept.Pin = true
 stands_at place kept.Seal = true
 stands_at place kept.Cancel = true
 
--- whether an item stands at that place, and ends behind its log size
+-- whether an item is at that place, and ends after its log size
 abbrev pub is_placed : ℕ → LogItem → Bool
 is_placed from item = stands_at from item.mark && (item.end == from + size_of_mark item.mark)
 
--- whether each item stands where the one before it ends
+-- whether each item is where the one before it ends
 abbrev pub are_placed : ℕ → List LogItem → Bool
 are_placed from [] = true
 are_placed from (item ∷ items) = is_placed from item && are_placed item.end items
@@ -34,7 +34,7 @@ are_placed from (item ∷ items) = is_placed from item && are_placed item.end it
 abbrev pub is_waiting : ℕ → LogItem → Bool
 is_waiting clock item = nat_le item.came clock && is_none item.settled
 
--- the first items are stable and the others are pending, all with moments that have been
+-- the first items are stable and the others are pending, all with moments in the past
 pub record IsInOrder (clock stable : ℕ) (items : List LogItem) : Type 0 where
   pub within : stable ≤ length items
   pub first : IsTrue (list_all (was_stable clock) (take stable items))
@@ -52,7 +52,7 @@ items_settled_at moment stable items = take stable items ++ map (item_settled_at
 abbrev pub item_after_restart : LogItem → LogItem
 item_after_restart item = record { mark = item.mark; end = item.end; came = 0; settled = Some 0 }
 
--- at this very moment a crash leaves what the log is
+-- at the current moment a crash leaves a crash state of the current state
 pub left_now : (clock : ℕ) (items : List LogItem) (pages : List Messages) → WasLeft clock items clock pages → IsLeft effect_of (unplaced_state (state_at clock items)) [] pages
 left_now clock items pages left =
     let from = left.from in

@@ -27,7 +27,7 @@ module _ {E : Type 0} where
   is_cancelled-append (Seal ∷ xs) ys h = absurd (false≢true h)
   is_cancelled-append (Cancel ∷ xs) ys h = refl
 
-  -- a batch that is cancelled leaves no trace behind its end
+  -- a batch that is cancelled has no effect after its end
   open_after-cancelled : (xs : List (Event E)) → is_cancelled xs ≡ true → open_after true xs ≡ open_after false xs
   open_after-cancelled [] h = absurd (false≢true h)
   open_after-cancelled (Change id said ∷ xs) h = open_after-cancelled xs h
@@ -35,7 +35,7 @@ module _ {E : Type 0} where
   open_after-cancelled (Seal ∷ xs) h = refl
   open_after-cancelled (Cancel ∷ xs) h = refl
 
-  -- within it a cut is before the end, or behind it
+  -- a cut is before its end, or after it
   inside_cancelled : (xs : List (Event E)) (n : ℕ) → is_cancelled xs ≡ true → open_after true (take n xs) ≡ true → (is_cancelled (drop n xs) ≡ true) ⊎ (is_open (take n xs) ≡ true)
   inside_cancelled xs zero h o = inl h
   inside_cancelled [] (suc n) h o = absurd (false≢true h)
@@ -94,14 +94,14 @@ module _ {E : Type 0} where
   pub IsPrefix-then : (part first all : List (Event E)) → IsPrefix part first → IsPrefix first all → IsPrefix part all
   IsPrefix-then part first all b c = (b.0 ++ c.0, sym (append_assoc part b.0 c.0) ∙ ap (λ (l : List (Event E)). l ++ c.0) b.1 ∙ c.1)
 
--- ---- calls one after another, whatever it is that events are made of
+-- ---- calls one after another, for any type of events
 
 module _ {E S : Type 0} (after : S → List (Event E) → S) (splits : (s : S) (xs ys : List (Event E)) → after s (xs ++ ys) ≡ after (after s xs) ys) where
   -- nothing was added, and nothing moved
   pub AddsEvents-none : (durable : S) (waiting : List (Event E)) → after durable [] ≡ durable → AddsEvents after durable waiting [] durable waiting
   AddsEvents-none durable waiting still = record { cut = 0; fair = IsFair-none (waiting ++ []); stable = sym still; pending = sym (append-nil waiting) }
 
-  -- what is behind a cut of the events so far, when more come
+  -- what is after a cut of the events so far, if more are added
   module _ (durable durable_mid : S) (waiting waiting_mid first second : List (Event E)) (a : AddsEvents after durable waiting first durable_mid waiting_mid) where
     abbrev all : List (Event E)
     all = (waiting ++ first) ++ second
@@ -138,7 +138,7 @@ module _ {E S : Type 0} (after : S → List (Event E) → S) (splits : (s : S) (
         refl,
       )
 
-  -- what a crash keeps in the second call: all that was durable behind the first, whose events have all come
+  -- what a crash keeps in the second call: all that was durable after the first, whose events have all come
   pub CrashKeeps-added : (durable durable_mid : S) (waiting waiting_mid first second : List (Event E)) (Is : S → Type 0)
       → (a : AddsEvents after durable waiting first durable_mid waiting_mid) → (left : CrashKeeps after durable_mid waiting_mid second Is)
       → (all : CrashKeeps after durable (waiting ++ first) second Is) × (all.cut ≡ a.cut + left.cut)
@@ -167,7 +167,7 @@ module _ {E S : Type 0} (after : S → List (Event E) → S) (splits : (s : S) (
         is = subst (λ (l : List (Event E)). Is (after durable (take behind.cut l))) whole behind.is;
       }
 
-  -- what it keeps where more events come
+  -- what it keeps if more events come
   pub CrashKeeps-more : (durable : S) (waiting first all : List (Event E)) (Is : S → Type 0) → IsPrefix first all → CrashKeeps after durable waiting first Is → CrashKeeps after durable waiting all Is
   CrashKeeps-more durable waiting first all Is begins left = record {
     came = left.came;

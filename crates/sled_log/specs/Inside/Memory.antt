@@ -30,8 +30,8 @@ last_in log = last_settled log.clock log.stable log.items.items
 abbrev pub pending_size_of : MemLog → ℕ
 pending_size_of log = log_size (drop log.stable (kept_in log))
 
--- What a call of the log in memory does that moves nothing: what was stable is, and the events stand behind those that were
--- pending. A refusal leaves these too.
+-- What a call of the log in memory does that makes nothing durable: the stable chains are the same, and the events come after the
+-- pending ones. An error leaves these unchanged too.
 pub record MovesNothing {T : Type 0} (old new : MemLog) (events : T → List (Event Entry)) (result : Result T LogError) : Type 0 where
   pub settings : settings_of new ≡ settings_of old
   pub stable : (state_of new).stable ≡ (state_of old).stable

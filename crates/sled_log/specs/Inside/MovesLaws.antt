@@ -1,4 +1,4 @@
--- What is due is of a page that there is.
+-- A message that is due is of a page that exists.
 use Rattle.std.proofs.Common.{◌≡◌, ◌<◌, ◌==◌, ◌||◌, nat_lt, ℕ, Bool, true, false, cond, Some, None, List, [], ◌∷◌, refl, subst}
 use Rattle.std.proofs.lemmas.Bool.{ltb-true}
 use Rattle.sled_log.specs.Moves.{Moves, first_of, due_among}

@@ -75,7 +75,7 @@ contents_after-append contents (u ∷ us) vs = contents_after-append (contents_f
 
 -- ---- lists of messages
 
--- one behind the other
+-- one list after another
 pub events-append : (contents : List Content) (ms ns : List (Event Message)) (us vs : List (Event Update))
     → AreEvents contents ms us → AreEvents (contents_after contents us) ns vs → AreEvents contents (ms ++ ns) (us ++ vs)
 events-append contents [] ns [] vs h i = i
@@ -91,7 +91,7 @@ events-take contents (suc n) (m ∷ ms) (u ∷ us) h = (h.0, h.1, events-take (c
 events-take contents (suc n) [] (u ∷ us) h = absurd h
 events-take contents (suc n) (m ∷ ms) [] h = absurd h
 
--- what is behind a cut is events of the contents after it
+-- what is after a cut is events of the contents at the cut
 pub events-drop : (contents : List Content) (n : ℕ) (ms : List (Event Message)) (us : List (Event Update))
     → AreEvents contents ms us → AreEvents (contents_after contents (take n us)) (drop n ms) (drop n us)
 events-drop contents zero ms us h = h
@@ -108,7 +108,7 @@ events-length contents (m ∷ ms) [] h = absurd h
 
 -- ---- batches and fair cuts
 
--- messages leave a batch open where the changes do
+-- messages leave a batch open if the changes do
 pub reads-open : (contents : List Content) (was : Bool) (ms : List (Event Message)) (us : List (Event Update)) → AreEvents contents ms us → open_after was ms ≡ open_after was us
 reads-open contents was [] [] h = refl
 reads-open contents was (Change id m ∷ ms) (Change other u ∷ us) h = reads-open (contents_from contents (Change other u)) was ms us h.2
@@ -129,7 +129,7 @@ reads-cancelled contents [] (u ∷ us) h = absurd h
 reads-cancelled contents (m ∷ ms) [] h = absurd h
 reads-cancelled contents (m ∷ ms) (u ∷ us) h = absurd h.0
 
--- a cut of the changes is fair where that of the messages is
+-- a cut of the changes is fair if that of the messages is
 pub reads-fair : (contents : List Content) (ms : List (Event Message)) (us : List (Event Update)) (cut : ℕ) → AreEvents contents ms us → IsFair ms cut → IsFair us cut
 reads-fair contents ms us cut h fair = record {
   within = let w = fair.within in let l = events-length contents ms us h in omega arith;

@@ -86,7 +86,7 @@ module _ {L : Type 0} (state : L → LogState Entry) (moment : L → ℕ) (left_
       → CrashesSinceLeave moment left_since old new (IsLeft effect_of (unplaced_state (state old)) (first ++ second))
   Ran-stop old mid new first second ran stop = CrashesSinceLeave-then moment left_since old mid new (unplaced_state (state old)) (unplaced_state (state mid)) first second ran.added ran.stop stop
 
-  -- one call more
+  -- one more call
   pub Ran-more : {T : Type 0} (old mid new : L) (first second : List (Event Message)) (answer : T) → Ran old mid first
       → (state new).usable ≡ true
       → Adds effect_of (unplaced_state (state mid)) second (unplaced_state (state new))
@@ -101,12 +101,12 @@ module _ {L : Type 0} (state : L → LogState Entry) (moment : L → ℕ) (left_
     write_faults = let a = ran.write_faults in let b = cause.write_faults in omega arith;
   }
 
--- whether a batch is open after one call more
+-- whether a batch is open after one more call
 pub open-call : (old new : LogState Entry) (call : LogCall) → Adds effect_of (unplaced_state old) (events_of call) (unplaced_state new) → is_open new.pending ≡ leaves_open (is_open old.pending) call
 open-call old new call added =
     sym (is_open-unplaced new.pending) ∙ is_open-Adds effect_of (unplaced_state old) (unplaced_state new) (events_of call) added ∙ ap (λ b. open_after b (events_of call)) (is_open-unplaced old.pending) ∙ open-events (is_open old.pending) call
 
--- the pages after one call more
+-- the pages after one more call
 pub now-call : (old new : LogState Entry) (call : LogCall) → Adds effect_of (unplaced_state old) (events_of call) (unplaced_state new) → now effect_of (unplaced_state new) ≡ chains_after effect_of (now effect_of (unplaced_state old)) (events_of call)
 now-call old new call added = now-Adds effect_of (unplaced_state old) (unplaced_state new) (events_of call) added
 

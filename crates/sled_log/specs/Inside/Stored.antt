@@ -11,7 +11,7 @@ use Rattle.sled_log.specs.declared.memory.item.Mark.{Mark as StoredMark}
 use Rattle.sled_log.specs.declared.memory.item.Mark.TheVariants as stored
 use Rattle.sled_log.specs.Events.{Event, Change, Pin, Seal, Cancel}
 
--- whether the blob that a message names lies in a buffer of that length
+-- whether the blob that a message names is within a buffer of that length
 abbrev pub blob_lies : ℕ → Option Held → Bool
 blob_lies end None = true
 blob_lies end (Some held) = nat_le (held.start + held.len) end
@@ -22,7 +22,7 @@ lies end stored.Pin = true
 lies end stored.Seal = true
 lies end stored.Cancel = true
 
--- whether its payload ends not before it begins
+-- whether its payload does not end before it begins
 abbrev pub is_within : ℕ → StoredItem → Bool
 is_within start item = nat_le start item.payload_end && lies item.payload_end item.mark
 
@@ -42,12 +42,12 @@ size_of_stored stored.Pin len = 0
 size_of_stored stored.Seal len = 0
 size_of_stored stored.Cancel len = 0
 
--- what the last item says, or else that number
+-- the number of the last item, or the given one if there is none
 abbrev pub last_of : (StoredItem → ℕ) → ℕ → List StoredItem → ℕ
 last_of says n [] = n
 last_of says n (item ∷ items) = last_of says (says item) items
 
--- where a message behind these items stands, and its payload
+-- where a message after these items is, and where its payload is
 abbrev pub place_after : ℕ → List StoredItem → ℕ
 place_after place items = last_of (λ item. item.end) place items
 
@@ -64,7 +64,7 @@ bare_event_of stored.Cancel = Cancel
 abbrev pub bare_event : StoredItem → Event MessageKind
 bare_event item = bare_event_of item.mark
 
--- how many pages there are with one message more of that kind, where there were so many
+-- how many pages there are after one more message of that kind, if there were `pages`
 abbrev pub pages_with : ℕ → ℕ → LogKind → ℕ
 pages_with pages pid kinds.Free = if pid == pages then pages + 1 else pages
 pages_with pages pid kinds.Replace = if pid == pages then pages + 1 else pages
@@ -83,14 +83,14 @@ pages_after pages (Cancel ∷ events) = pages_after pages events
 abbrev pub restarts : StoredItem → StoredItem
 restarts item = record { mark = item.mark; end = item.end; payload_end = item.payload_end; came = 0 }
 
--- when the last item came, and when it did by the clock: at the last moment, or at the one before it where all became stable since
+-- when the last item came, and when it did by the clock: at the last moment, or at the one before if all became stable since
 abbrev pub last_came : ℕ → List StoredItem → ℕ
 last_came came items = last_of (λ item. item.came) came items
 
 abbrev pub came_by : ℕ → ℕ → List StoredItem → ℕ
 came_by clock stable items = if nat_lt stable (length items) then clock else clock - 1
 
--- whether it is a message, or else how many come before the first one behind it
+-- 0 if it is a message, or else how many items there are before the first message after it, and one
 abbrev pub before_mark : StoredMark → ℕ → ℕ
 before_mark (stored.Change kind pid blob) others = 0
 before_mark stored.Pin others = suc others

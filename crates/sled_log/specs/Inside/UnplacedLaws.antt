@@ -16,7 +16,7 @@ chains_after-unplaced = chains_after-seen effect_of_entry effect_of message_in (
 pub is_open-unplaced : (events : List (Event Entry)) → is_open (unplaced_events events) ≡ is_open events
 is_open-unplaced = open_after-seen message_in false
 
--- a cut is fair in the one where it is in the other
+-- a cut is fair in the one if it is in the other
 pub IsFair-unplaced : (events : List (Event Entry)) (cut : ℕ) → IsFair events cut → IsFair (unplaced_events events) cut
 IsFair-unplaced = IsFair-seen message_in
 

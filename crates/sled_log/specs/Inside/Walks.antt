@@ -1,4 +1,4 @@
--- What calls in a row know of a log of which nothing else is known.
+-- What is known of a log after calls in a row, if nothing else is known of it.
 use Rattle.std.proofs.Common.{◌≡◌, ◌≢◌, ℕ, Bool, true, false, not, List, [], Result, Ok, Err, refl, ◌∙◌, ap}
 use Rattle.sled_log.specs.Events.{is_open, open_after, Event}
 use Rattle.sled_log.specs.Calls.{Called, Counts, begun_by, is_write_fault}
@@ -9,7 +9,7 @@ use Rattle.sled_log.specs.LogState.{LogState, now}
 use Rattle.sled_log.specs.declared.log.LogError.{LogError}
 use Rattle.sled_log.specs.declared.log.LogError.TheVariants.{Memory, Full, ReadFault, WriteFault, Corruption}
 
--- It may be called, a batch is open or not, and where it tells its bytes, these are its chains.
+-- It may be called, `batch` says whether a batch is open, and if it tells its bytes, these are its chains.
 pub record Stands {L : Type 0} (tells : Type 0) (state : L → LogState Entry) (log : L) (batch : Bool) (chains : List Chain) : Type 0 where
   pub usable : (state log).usable ≡ true
   pub opened : is_open (state log).pending ≡ batch

@@ -1,4 +1,4 @@
--- What was written is read again.
+-- What was encoded is decoded again.
 use Rattle.std.proofs.Common.{ℕ, List, [], ◌∷◌, refl, subst}
 use Rattle.std.proofs.lemmas.List.{append-nil}
 use Rattle.sled_base.specs.Payloads.NumberLaws.{U64-grammar}
@@ -22,7 +22,7 @@ written-update (Put (Node node)) can = subst (λ (bytes : List ℕ). ReadsNode b
 written-update (Put Damaged) can = absurd can
 written-update (Link link) can = subst (λ (bytes : List ℕ). ReadsLink bytes link []) (append-nil (written_link link)) (Link-grammar.read_again link [] can tt)
 
--- a change that may be made is the event of the message that it is written as
+-- a change that may be made is the event of the message that encodes it
 pub events-update : (contents : List Content) (id : ℕ) (update : Update)
     → MayChange contents id update → CanWrite update → AreEvents contents (Change id (message_of update) ∷ []) (Change id update ∷ [])
 events-update contents id update may can = ((refl, counts-read (message_of update) update (written-update update can)), may, tt)

@@ -27,7 +27,7 @@ event_of_mark kept.Cancel = Cancel
 abbrev pub event_of : LogItem → Event Entry
 event_of item = event_of_mark item.mark
 
--- the log size of what is kept: a head and the payload for a change, none for a mark
+-- the log size of an item: a head and the payload for a change, 0 for a mark
 abbrev pub size_of_mark : Mark → ℕ
 size_of_mark (kept.Change change) = head_size + length change.payload
 size_of_mark kept.Pin = 0
@@ -48,11 +48,11 @@ abbrev pub named_in : List LogItem → List (ℕ × ℕ)
 named_in [] = []
 named_in (item ∷ items) = named_by item.mark ++ named_in items
 
--- where a payload is kept: above the limit as a blob
+-- where a payload is stored: as a blob if it is longer than the limit
 abbrev pub pointer_at : ℕ → ℕ → List ℕ → DiskPtr
 pointer_at limit place payload = if nat_le (length payload) limit then Inline place else Blob place (pos place)
 
--- whether a moment that may not have come yet was there by another
+-- whether a moment that may not have come yet is at or before another
 abbrev pub was_by : ℕ → Option ℕ → Bool
 was_by moment None = false
 was_by moment (Some at) = nat_le at moment
@@ -61,7 +61,7 @@ was_by moment (Some at) = nat_le at moment
 abbrev pub was_stable : ℕ → LogItem → Bool
 was_stable moment item = nat_le item.came moment && was_by moment item.settled
 
--- whether the item had come by a moment and was not stable yet
+-- whether the item was added by a moment and was not stable then
 abbrev pub was_pending : ℕ → LogItem → Bool
 was_pending moment item = nat_le item.came moment && not (was_by moment item.settled)
 

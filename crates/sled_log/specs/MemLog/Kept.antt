@@ -1,9 +1,9 @@
--- What the log in memory was told and keeps: messages of pages, and the marks of batches.
+-- What the log in memory was given and keeps: messages of pages, and the marks of batches.
 use Rattle.std.specs.Prelude.{ℕ, ℤ, Option, List}
 use Rattle.sled_base.specs.declared.kinds.MessageKind.{MessageKind}
 use Rattle.sled_base.specs.declared.types.DiskPtr.{DiskPtr}
 
--- a message of a page, and where it is kept
+-- a message of a page, and where it is stored
 pub record KeptChange : Type 0 where
   pub kind : MessageKind
   pub pid : ℕ
@@ -17,7 +17,8 @@ pub data Mark : Type 0 where
   Seal : Mark
   Cancel : Mark
 
--- what it was told, with the log sizes of all up to it, the moment when it came, and that when it became stable
+-- a mark or a message, with the log sizes of all up to it added up, the moment at which it was added, and the moment at which it
+-- became stable, if it did
 pub record LogItem : Type 0 where
   pub mark : Mark
   pub end : ℕ

@@ -1,4 +1,4 @@
--- How an item of the log in memory keeps what the log was told: a blob that a message names lies apart.
+-- How an item of the log in memory stores what was appended: a blob that a message names is stored apart.
 use Rattle.std.specs.Prelude.{ℕ, Some, None}
 use Rattle.sled_log.specs.declared.memory.item.Mark.{Mark}
 use Rattle.sled_log.specs.declared.memory.item.Mark.TheVariants as marks

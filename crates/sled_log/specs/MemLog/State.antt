@@ -11,7 +11,7 @@ use Rattle.sled_log.specs.MemLog.Stored.{kept_items}
 use Rattle.sled_log.specs.declared.log.LogError.{LogError}
 use Rattle.sled_log.specs.declared.memory.MemLog.{MemLog}
 
--- what it keeps
+-- its items
 abbrev pub kept_in : MemLog → List LogItem
 kept_in log = kept_items log.blob_limit log.bytes.items log.clock log.stable log.items.items
 
@@ -21,7 +21,7 @@ state_of log = state_at log.clock (kept_in log)
 abbrev pub clock_of : MemLog → ℕ
 clock_of log = log.clock
 
--- the crash states from that moment on
+-- the crash states since that moment
 abbrev pub might_have_left : MemLog → ℕ → List Messages → Type 0
 might_have_left log since pages = WasLeft log.clock (kept_in log) since pages
 
@@ -32,22 +32,22 @@ size_of log = log_size (kept_in log)
 abbrev pub stable_size_of : MemLog → ℕ
 stable_size_of log = log_size (take log.stable (kept_in log))
 
--- the log sizes of what a crash keeps: all that is durable, and so many of the pending events
+-- the log sizes of what a crash keeps, added up: all that is durable, and the first `n` pending events
 abbrev pub kept_size_of : MemLog → ℕ → ℕ
 kept_size_of log n = log_size (take (log.stable + n) (kept_in log))
 
--- no device fails
+-- no device can fail
 abbrev pub counts_of : MemLog → Counts
 counts_of log = record { reads = log.reads; failed_reads = 0; write_faults = 0 }
 
 abbrev pub settings_of : MemLog → ℕ × ℕ
 settings_of log = (log.blob_limit, log.clean_every)
 
--- the messages that a crash keeps: all that are durable, and those of so many of the pending events
+-- the messages that a crash keeps: all durable ones, and those of the first `n` pending events
 abbrev pub kept_names_of : MemLog → ℕ → List (ℕ × ℕ)
 kept_names_of log n = named_in (take (log.stable + n) (kept_in log))
 
--- those behind the cursor, and which of them is due
+-- the messages from the cursor on, and which of them is due
 abbrev pub moves_of : MemLog → Moves
 moves_of log = record { waiting = named_in (drop log.cursor (kept_in log)); appended = log.appended }
 

@@ -1,12 +1,11 @@
 // A log over a device that tells nothing of its bytes: what it reads may be anything, and so may be what a crash leaves. It
 // shows that the trait asks no copy of the contents in memory of such a log.
 
-ghost use Rattle.std.specs.Prelude.{◌≡◌, ℕ, ◌+◌, ◌-◌, ◌≤◌, ◌<◌, ◌==◌, pos};
+ghost use Rattle.std.specs.Prelude.{◌≡◌, ◌+◌, ◌-◌, ◌≤◌, ◌<◌, ◌==◌, pos};
 ghost use Rattle.sled_log.specs.Calls.{one_more};
 ghost use Rattle.sled_log.specs.Limits.{head_size, size_limit};
 ghost use Rattle.sled_log.specs.Inside.Marks.{marks};
-ghost use Rattle.std.specs.Prelude.{⊤, None, IfErr, [], true, false};
-ghost use Rattle.sled_log.specs.declared.log.LogError.TheVariants.{Memory};
+ghost use Rattle.std.specs.Prelude.{⊤, None, [], true, false};
 
 use super::*;
 use sled_base::{BlobPointer, LogKind, LogOffset, PageId};

@@ -2,7 +2,6 @@
 // kind; and none to 1,000 messages, of pages of their own, of links on one page, and of one page that is freed and put again,
 // in a batch or in none.
 
-ghost use Rattle.std.specs.Prelude.{◌≡◌};
 ghost use Rattle.std.specs.List.{Any};
 ghost use Rattle.sled_log.specs.Messages.{Chain};
 ghost use Rattle.sled_log.specs.Pages.{IsAt, IsPageState};

@@ -9,7 +9,7 @@ ghost use Rattle.sled_log.specs.MemLog.State.{kept_in, state_of, clock_of, might
 ghost use Rattle.sled_log.specs.Inside.MovesLaws.{due_within};
 ghost use Rattle.sled_log.specs.Inside.Memory.{pending_size_of};
 ghost use Rattle.sled_log.specs.Messages.{effect_of, effect_of_entry};
-ghost use Rattle.sled_log.specs.LogState.{LogState, now, Adds, IsLeft, CrashesSinceLeave, unplaced_state};
+ghost use Rattle.sled_log.specs.LogState.{now, Adds, IsLeft, CrashesSinceLeave, unplaced_state};
 
 use crate::{Log, LogError, MemLog, PageState};
 use sled_base::{BlobPointer, DiskPtr, LogOffset, Lsn, MessageKind, PageId};

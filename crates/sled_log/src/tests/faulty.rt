@@ -1,6 +1,6 @@
 // A log in memory of which one read and one other call fail.
 
-ghost use Rattle.std.specs.Prelude.{⊤, ◌≡◌, ◌==◌, ℕ, ◌+◌, ◌≤◌, pos, [], true, length};
+ghost use Rattle.std.specs.Prelude.{⊤, ◌≡◌, ◌==◌, ◌+◌, ◌≤◌, pos, [], true, length};
 ghost use Rattle.sled_log.specs.Calls.{one_more};
 ghost use Rattle.sled_log.specs.Inside.Items.{left_now, left_earlier, stable_left};
 ghost use Rattle.sled_log.specs.Limits.{head_size, size_limit};

@@ -8,7 +8,7 @@ use Rattle.sled_base.specs.Payloads.Numbers.{ReadsU64, written_u64}
 use Rattle.sled_base.specs.Payloads.ByteStrings.{ReadsBytes, written_bytes}
 use Rattle.sled_node.specs.Payloads.Pairs.{ReadsPairs, AsksPairs, written_pairs}
 
--- the pairs of a leaf: the keys rise, and the limits hold
+-- the pairs of a leaf: the keys ascend, and the limits hold
 abbrev pub ReadsLeaf : List ℕ → List (Bytes × Bytes) → List ℕ → Type 0
 ReadsLeaf input pairs rest = ReadsPairs ReadsBytes input pairs rest × HasPairs IsWithinLimit pairs
 
@@ -21,7 +21,7 @@ abbrev pub ReadsData : List ℕ → Data → List ℕ → Type 0
 ReadsData input (Leaf pairs) rest = (parts : List ℕ) × (input ≡ 0 ∷ parts) × ReadsLeaf parts pairs rest
 ReadsData input (Index pairs) rest = (parts : List ℕ) × (input ≡ 1 ∷ parts) × ReadsIndex parts pairs rest
 
--- memory is asked for where the count of pairs has room, and so many keys stand behind it
+-- memory is asked for if there is room for the counted pairs, and as many keys follow the count
 abbrev pub AsksData : List ℕ → Type 0
 AsksData input = (tag : ℕ) × (parts : List ℕ) × (input ≡ tag ∷ parts) × (tag ≤ 1) × AsksPairs parts
 

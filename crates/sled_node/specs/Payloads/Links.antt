@@ -16,7 +16,7 @@ ReadsLink input (ParentMergeIntention page) rest = (parts : List ℕ) × (input 
 ReadsLink input ParentMergeConfirm rest = input ≡ 3 ∷ rest
 ReadsLink input ChildMergeCap rest = input ≡ 4 ∷ rest
 
--- memory is asked for where a key or a value is read that doesn't fit in place
+-- memory is asked for if a key or a value is read that is too long to be stored inline
 abbrev pub AsksLink : List ℕ → Type 0
 AsksLink input = (parts : List ℕ) × (((input ≡ 0 ∷ parts) × AsksPair AsksShort ReadsShort AsksShort parts) ⊎ ((input ≡ 1 ∷ parts) × AsksShort parts))
 

@@ -30,7 +30,7 @@ use Rattle.sled_node.specs.Payloads.Data.{written_data}
 use Rattle.sled_node.specs.Payloads.DataLaws.{Data-grammar}
 use Rattle.sled_node.specs.Payloads.Nodes.{NodeParts, ReadsParts, node_from, ReadsNode, page_or_zero, value_in, page_of_item, stored_pairs, stored_as, written_node}
 
--- ---- between two keys with a front in common, each has it
+-- ---- each key between two keys with a common prefix has that prefix
 
 ordered : (o : Ordering) (a b : Ordering) → ordering_then o a ≢ Less → ordering_then o b ≡ Less → (o ≡ Equal) × (a ≢ Less) × (b ≡ Less)
 ordered Less a b above below = absurd (above refl)
@@ -59,7 +59,7 @@ between (suc p) (x ∷ lo) (y ∷ key) (z ∷ hi) lower above below common =
     let rest = between p lo key hi lower_rest parted.1 parted.2 fronts in
     λ i. same i ∷ rest i
 
--- each key in the range begins as lo does
+-- each key in the range begins with the prefix of lo
 begins : (n : WholeNode) → IsWellFormed n → (key : Bytes) → IsInRange n key → take n.prefix_len key ≡ take n.prefix_len n.lo
 begins n formed key inside = by_hi n.hi refl
   where
@@ -84,7 +84,7 @@ module _ {V : Type 0} (pick : Item → V) (make : V → Item) (front : Bytes) (p
   whole_again : (key : Bytes) → take p key ≡ front → front ++ drop p key ≡ key
   whole_again key is = ap (λ k. k ++ drop p key) (sym is) ∙ take-append-drop p key
 
-  -- made whole, the stored pairs are the pairs
+  -- the stored pairs with whole keys are the pairs of the node
   stored_under : {Fits : Item → Type 0} → ((item : Item) → Fits item → make (pick item) ≡ item) → (pairs : List (Bytes × Item)) → AllByRecursion (λ pair. Fits pair.1) pairs → AllByRecursion Begins pairs
       → map (λ pair. (front ++ pair.0, make pair.1)) (stored_pairs pick p pairs) ≡ pairs
   stored_under back [] fits begin = refl
@@ -94,7 +94,7 @@ module _ {V : Type 0} (pick : Item → V) (make : V → Item) (front : Bytes) (p
       let others = stored_under back pairs fits.1 begin.1 in
       λ i. (key i, item i) ∷ others i
 
-  -- stored, the pairs that were made whole are the stored pairs
+  -- storing pairs with whole keys results in the stored pairs again
   under_stored : ((v : V) → pick (make v) ≡ v) → length front ≡ p → (pairs : List (Bytes × V)) → stored_pairs pick p (map (λ pair. (front ++ pair.0, make pair.1)) pairs) ≡ pairs
   under_stored back len [] = refl
   under_stored back len (pair ∷ pairs) =
@@ -138,7 +138,7 @@ page_fits : (item : Item) → ItemFits true item → page_of_item item < 2 ^ 64
 page_fits (Value value) fits = absurd fits
 page_fits (Child page) fits = fits
 
--- what is stored of a node's pairs, made whole, is the pairs again, and keeps what is stored has to
+-- the stored pairs of a node are its pairs again once their keys are whole, and they keep the limits and the order of stored pairs
 module _ (front : Bytes) (p : ℕ) (pairs : List (Bytes × Item)) (few : length pairs ≤ 2 ^ 24) (ascending : IsAscending pairs) (begin : AllByRecursion (λ pair. take p pair.0 ≡ front) pairs) (keys : AllByRecursion (λ pair. IsWithinLimit pair.0) pairs) where
   whole_stored : (b : Bool) → AllByRecursion (λ pair. ItemFits b pair.1) pairs → (is_index (stored_as b p pairs) ≡ b) × (pairs_under front (stored_as b p pairs) ≡ pairs) × HasStored (stored_as b p pairs)
   whole_stored false items =
@@ -146,7 +146,7 @@ module _ (front : Bytes) (p : ℕ) (pairs : List (Bytes × Item)) (few : length 
   whole_stored true items =
       (refl, stored_under page_of_item (λ page. Child page) front p {Fits = ItemFits true} page_back pairs items begin, has_stored page_of_item (λ page. Child page) front p {Fits = ItemFits true} (λ page. page < 2 ^ 64) page_fits pairs few ascending begin keys items)
 
--- what is stored of the pairs that stored pairs were made into
+-- storing the pairs that result from stored pairs gives the stored pairs again
 pub stored_again : (front : Bytes) (p : ℕ) (parts : Data) → length front ≡ p → stored_as (is_index parts) p (pairs_under front parts) ≡ parts
 stored_again front p (Leaf pairs) len = ap (λ ps. Leaf ps) (under_stored value_in (λ v. Value v) front p (λ v. refl) len pairs)
 stored_again front p (Index pairs) len = ap (λ ps. Index ps) (under_stored page_of_item (λ page. Child page) front p (λ page. refl) len pairs)
@@ -203,7 +203,7 @@ all_so so (x ∷ xs) all = (so x all.0, all_so so xs all.1)
 all_begin : (n : WholeNode) → IsWellFormed n → AllByRecursion (λ pair. take n.prefix_len pair.0 ≡ take n.prefix_len n.lo) n.pairs
 all_begin n formed = all_so {P = λ pair. IsInRange n pair.0} (λ pair inside. begins n formed pair.0 inside) n.pairs formed.in_range
 
--- what is stored of a well-formed node keeps what is stored has to
+-- the stored pairs of a well-formed node keep the limits and the order of stored pairs
 pub formed_stored : (n : WholeNode) → IsWellFormed n → HasStored (stored_as n.is_index n.prefix_len n.pairs)
 formed_stored n formed = (whole_stored (take n.prefix_len n.lo) n.prefix_len n.pairs formed.few formed.ascending (all_begin n formed) formed.keys n.is_index formed.items).2
 

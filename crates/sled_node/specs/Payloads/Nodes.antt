@@ -21,7 +21,7 @@ NodeParts = (Option NonZeroU64 × Option NonZeroU64 × Bool) × (ℕ × Bytes ×
 abbrev pub ReadsParts : List ℕ → NodeParts → List ℕ → Type 0
 ReadsParts = ReadsTriple (ReadsTriple ReadsPageNumber ReadsPageNumber ReadsBool) (ReadsTriple ReadsU8 ReadsBytes ReadsBytes) ReadsData
 
--- lo begins behind next, the merging child, the mark and the prefix length; hi begins behind lo, and the pairs behind hi
+-- lo begins after next, the merging child, the mark and the prefix length; hi begins after lo, and the pairs after hi
 abbrev pub BeginsLo : List ℕ → List ℕ → Type 0
 BeginsLo input at = (head : Option NonZeroU64 × Option NonZeroU64 × Bool) × (middle : List ℕ) × (prefix_len : ℕ) × ReadsTriple ReadsPageNumber ReadsPageNumber ReadsBool input head middle × ReadsU8 middle prefix_len at
 
@@ -31,7 +31,7 @@ BeginsHi input at = (lo middle : List ℕ) × BeginsLo input middle × ReadsByte
 abbrev pub BeginPairs : List ℕ → List ℕ → Type 0
 BeginPairs input at = (hi middle : List ℕ) × BeginsHi input middle × ReadsBytes middle hi at
 
--- memory is asked for by a bound that doesn't fit in place, or by the pairs
+-- memory is asked for by a bound that is too long to be stored inline, or by the pairs
 abbrev pub AsksNode : List ℕ → Type 0
 AsksNode input = (at : List ℕ) × ((BeginsLo input at × AsksBytes at) ⊎ (BeginsHi input at × AsksBytes at) ⊎ (BeginPairs input at × AsksData at))
 
@@ -39,16 +39,16 @@ AsksNode input = (at : List ℕ) × ((BeginsLo input at × AsksBytes at) ⊎ (Be
 abbrev pub node_from : NodeParts → WholeNode
 node_from parts = node_of parts.1.0 (option_map non_zero_u64_get parts.0.0) (option_map non_zero_u64_get parts.0.1) parts.0.2 parts.1.1 parts.1.2 parts.2
 
--- the parts of a well-formed node, in turn
+-- the parts of a well-formed node, one after the other
 abbrev pub ReadsNode : List ℕ → WholeNode → List ℕ → Type 0
 ReadsNode input n rest = (parts : NodeParts) × ReadsParts input parts rest × (node_from parts ≡ n) × IsWellFormed n
 
--- 0 where there is no page
+-- 0 if there is no page
 abbrev pub page_or_zero : Option ℕ → ℕ
 page_or_zero None = 0
 page_or_zero (Some page) = page
 
--- what stands behind the keys of a leaf, and of an index
+-- what the keys of a leaf, and of an index, lead to
 abbrev pub value_in : Item → Bytes
 value_in (Value value) = value
 value_in (Child page) = []

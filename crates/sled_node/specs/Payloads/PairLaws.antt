@@ -26,7 +26,7 @@ same_pairs (p ∷ ps) (q ∷ qs) keys items =
     let others = same_pairs ps qs more_keys more_items in
     λ i. (key i, item i) ∷ others i
 
--- what holds of each key, and of each item
+-- what holds for each key, and for each item
 pub all_keys : {V : Type 0} {P Q : Bytes → Type 0} → ((key : Bytes) → P key → Q key) → (pairs : List (Bytes × V)) → AllByRecursion (λ pair. P pair.0) pairs → AllByRecursion Q (keys_of pairs)
 all_keys so [] all = tt
 all_keys so (pair ∷ pairs) all = (so pair.0 all.0, all_keys so pairs all.1)

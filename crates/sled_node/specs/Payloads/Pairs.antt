@@ -13,25 +13,25 @@ keys_of pairs = map (λ pair. pair.0) pairs
 abbrev pub items_of : {V : Type 0} → List (Bytes × V) → List V
 items_of pairs = map (λ pair. pair.1) pairs
 
--- the count, which keeps the limit, all keys, and then all items
+-- the count, which is within the limit, all keys, and then all items
 abbrev pub ReadsPairs : {V : Type 0} → (List ℕ → V → List ℕ → Type 0) → List ℕ → List (Bytes × V) → List ℕ → Type 0
 ReadsPairs reads input pairs rest = (keys items : List ℕ) × ReadsU64 input (length pairs) keys × (length pairs ≤ pairs_limit) × ReadsAll ReadsBytes keys (keys_of pairs) items × ReadsAll reads items (items_of pairs) rest
 
--- behind so many keys the rest begins
+-- the rest begins after this many keys
 abbrev pub IsBehindKeys : ℕ → List ℕ → List ℕ → Type 0
 IsBehindKeys count input rest = (keys : List Bytes) × ReadsCount count ReadsBytes input keys rest
 
--- where the keys and the items of so many pairs begin in an input
+-- where the keys and the items of this many pairs begin in an input
 pub record SplitsPairs (input : List ℕ) (count : ℕ) (keys items : List ℕ) : Type 0 where
-  -- the count stands first, and the keys begin behind it
+  -- the count comes first, and the keys begin after it
   pub counted : ReadsU64 input count keys
   pub few : count ≤ pairs_limit
-  -- there is room for them: a pair takes two bytes at least
+  -- there is room for the pairs, each of which takes at least two bytes
   pub room : 2 * count ≤ length keys
-  -- the items begin behind so many keys
+  -- the items begin after this many keys
   pub skipped : IsBehindKeys count keys items
 
--- memory is asked for where the input splits so, for one pair at least
+-- memory is asked for if the input splits like this, with at least one pair
 pub record AsksPairs (input : List ℕ) : Type 0 where
   pub count : ℕ
   pub keys : List ℕ
@@ -39,7 +39,7 @@ pub record AsksPairs (input : List ℕ) : Type 0 where
   pub split : SplitsPairs input count keys items
   pub some : 1 ≤ count
 
--- so many keys up to the input of the items, and from there as many items
+-- this many keys up to the input of the items, and from there as many items
 abbrev pub ReadsBoth : {V : Type 0} → (List ℕ → V → List ℕ → Type 0) → ℕ → List ℕ → List ℕ → List (Bytes × V) → List ℕ → Type 0
 ReadsBoth reads count keys input pairs rest = (length pairs ≡ count) × ReadsAll ReadsBytes keys (keys_of pairs) input × ReadsAll reads input (items_of pairs) rest
 

@@ -21,7 +21,7 @@ CanWriteRoot pair = IsWithinLimit pair.0 × (pair.1 < 2 ^ 64)
 pub Root-grammar : IsGrammar ReadsRoot written_root CanWriteRoot (λ _ _. Unit {0} × Unit {0}) 2
 Root-grammar = Pair-grammar Short-grammar U64-grammar
 
--- Pairs up to some place, and others up to the end of the input: these are the former, and then more from that place on.
+-- If pairs are read up to some place, pairs that are read up to the end of the input begin with them, and continue from that place.
 pub go_on : (input : List ℕ) (ps qs : List (Bytes × ℕ)) (middle : List ℕ) → ReadsAll ReadsRoot input ps middle → ReadsAll ReadsRoot input qs [] → (more : List (Bytes × ℕ)) × (qs ≡ ps ++ more) × ReadsAll ReadsRoot middle more []
 go_on input [] qs middle is all = (qs, refl, subst (λ k. ReadsAll ReadsRoot k qs []) is all)
 go_on input (p ∷ ps) [] middle (m, a, others) is = absurd (omega (arith, Root-grammar.takes input p m a, ap length is))
@@ -30,7 +30,7 @@ go_on input (p ∷ ps) (q ∷ qs) middle (m, a, others) (n, b, rest) =
     let (more, same, behind) = go_on m ps qs middle others (subst (λ k. ReadsAll ReadsRoot k qs []) (sym one.1) rest) in
     (more, (λ i. sym one.0 i ∷ same i), behind)
 
--- behind the end there are no pairs
+-- after the end there are no pairs
 pub at_end : (pairs : List (Bytes × ℕ)) → ReadsAll ReadsRoot [] pairs [] → pairs ≡ []
 at_end [] all = refl
 at_end (p ∷ ps) (m, a, others) = absurd (omega (arith, Root-grammar.takes [] p m a))
@@ -70,6 +70,6 @@ Roots-grammar = record {
   takes = λ input roots rest found. omega (arith, ap length found.0);
 }
 
--- a map takes all bytes
+-- reading a map consumes all bytes
 pub Roots-take : true ≡ true → TakesAByte ReadsRoots
 Roots-take so input roots rest some found = omega (arith, some_bytes input some, ap length found.0)

@@ -14,11 +14,11 @@ use Rattle.sled_node.specs.Limits.{names_limit}
 abbrev pub ReadsRoot : List ℕ → Bytes × ℕ → List ℕ → Type 0
 ReadsRoot = ReadsPair ReadsShort ReadsU64
 
--- Pairs up to the end of the input. They are put into the empty map in their order, which has no more names than a root map may then.
+-- Pairs up to the end of the input. The map results from setting them in their order in the empty map, and keeps the limit of names.
 abbrev pub ReadsRoots : List ℕ → Roots → List ℕ → Type 0
 ReadsRoots input roots rest = (rest ≡ []) × (pairs : List (Bytes × ℕ)) × ReadsAll ReadsRoot input pairs [] × (roots ≡ with_roots pairs []) × (length roots ≤ names_limit)
 
--- memory is asked for where a name stands at the front
+-- memory is asked for if a name is at the front
 abbrev pub AsksRoots : List ℕ → Type 0
 AsksRoots input = (name rest : List ℕ) × ReadsShort input name rest
 

@@ -7,7 +7,7 @@ use Rattle.sled_base.specs.Payloads.Reading.{IsGrammar, ReadsNoValue}
 use Rattle.sled_node.specs.Payloads.Sequences.{ReadsAll}
 
 module _ {V : Type 0} {reads : List ℕ → V → List ℕ → Type 0} {written : V → List ℕ} {can_write : V → Type 0} {can_follow : V → List ℕ → Type 0} {least : ℕ} where
-  -- lists of one length that are read from one input are one
+  -- two lists of the same length that are read from the same input are the same
   pub ReadsAll-one : IsGrammar reads written can_write can_follow least → (input : List ℕ) (vs ws : List V) (r s : List ℕ) → length vs ≡ length ws → ReadsAll reads input vs r → ReadsAll reads input ws s → (vs ≡ ws) × (r ≡ s)
   ReadsAll-one g input [] [] r s len left right = (refl, sym left ∙ right)
   ReadsAll-one g input [] (w ∷ ws) r s len left right = absurd (omega arith)
@@ -24,7 +24,7 @@ module _ {V : Type 0} {reads : List ℕ → V → List ℕ → Type 0} {written 
       let middle = flat_map written vs ++ rest in
       (middle, subst (λ input. reads input v middle) (sym (append_assoc (written v) (flat_map written vs) rest)) (g.read_again v middle can.0 (follows v middle)), ReadsAll-again g follows vs rest can.1)
 
-  -- each value takes its least size
+  -- each value takes at least its least size
   pub ReadsAll-takes : IsGrammar reads written can_write can_follow least → (input : List ℕ) (vs : List V) (rest : List ℕ) → ReadsAll reads input vs rest → length rest + length vs * least ≤ length input
   ReadsAll-takes g input [] rest is = omega (arith, ap length is)
   ReadsAll-takes g input (v ∷ vs) rest (m, a, others) =
@@ -32,7 +32,7 @@ module _ {V : Type 0} {reads : List ℕ → V → List ℕ → Type 0} {written 
       let there = ReadsAll-takes g m vs rest others in
       rw suc-mul (omega arith)
 
-  -- where the next value isn't read, no longer list is
+  -- if no next value can be read, no longer list can be read
   pub ReadsAll-stops : IsGrammar reads written can_write can_follow least → (input : List ℕ) (vs : List V) (middle : List ℕ) → ReadsAll reads input vs middle → ReadsNoValue reads middle → (ws : List V) (rest : List ℕ) → length vs < length ws → ReadsAll reads input ws rest → ⊥
   ReadsAll-stops g input [] middle is nothing [] rest lt found = absurd (omega arith)
   ReadsAll-stops g input [] middle is nothing (w ∷ ws) rest lt (m, a, found) = nothing w m (subst (λ k. reads k w m) is a)

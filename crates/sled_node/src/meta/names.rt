@@ -1,4 +1,4 @@
-//! Names with their pages, in std's map.
+//! Names with their pages, in a `BTreeMap`.
 
 ghost use Rattle.std.specs.Prelude.{◌≡◌, ◌≢◌, None, IfSome, IfNone, IfOk, IsOk, OnOk, OnErr};
 ghost use Rattle.sled_node.specs.Pairs.{IsAscending};

@@ -1,7 +1,6 @@
 //! Payloads of a root map.
 
 ghost use Rattle.std.specs.Prelude.{◌≡◌, ◌+◌, ◌<◌, ◌≤◌, ◌^◌, ◌++◌, [], length, take, drop, IfOk, IfErr, OnErr};
-ghost use Rattle.std.specs.List.{flat_map};
 ghost use Rattle.sled_node.specs.Meta.{named_pages, IsRootMap};
 ghost use Rattle.sled_base.specs.Payloads.ByteStrings.{written_bytes};
 ghost use Rattle.sled_base.specs.Payloads.Reading.{IsRefusal};
@@ -53,11 +52,11 @@ impl Serialize for Meta {
         write_roots(self.roots(), out)
     }
 
-    /// Reads the names with their pages to the end of the input. Of two pairs with one name the later one stands.
+    /// Reads the names with their pages to the end of the input. If a name occurs more than once, the last pair wins.
     ///
-    /// It answers `Corruption(None)` exactly where what is left of the input is no pair, or where there are more names
-    /// than a map holds, and `OutOfMemory` where an allocation failed, which comes only behind a name. An error leaves
-    /// the input unchanged.
+    /// An input is refused with `Corruption(None)` if it doesn't consist of such pairs, or has more names than a map holds, unless an
+    /// allocation fails first. No other input is. `OutOfMemory` means that an allocation failed, which happens only for an input that
+    /// begins with a name. An error leaves the input unchanged.
     fn deserialize(alloc: Global, input: &mut &[u8]) -> Result<Meta, Error> {
         let mut meta = Meta::default(alloc);
         let mut rest = *input;

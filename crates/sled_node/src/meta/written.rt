@@ -1,4 +1,4 @@
-//! Payloads of a root map, whole and without a name.
+//! Encoding a root map, whole or without a name.
 
 ghost use Rattle.std.specs.Prelude.{◌≡◌, ◌≤◌, ◌+◌, ◌++◌, length, take, vec_len, IfOk, OnOk};
 ghost use Rattle.sled_node.specs.Meta.{named, named_pages, without_root, IsRootMap};

@@ -1,4 +1,4 @@
-//! Whether the end of a range of keys lies within the range of a node.
+//! Whether the end of a range of keys is within the range of a node.
 
 ghost use Rattle.std.specs.Prelude.{◌↔◌, IsTrue};
 ghost use Rattle.sled_node.specs.Bounds.{ContainsUpper, ContainsLower};
@@ -9,8 +9,10 @@ use sled_base::IVec;
 use std::ops::Bound;
 
 impl Node {
-    /// Whether the upper end of a range lies within the node: `hi` is not below an excluded key, or above an included
-    /// one, or empty; without an end it is empty.
+    /// Returns whether the upper end of a range is within the node.
+    ///
+    /// For an excluded key `hi` must not be below it, unless `hi` is empty. For an included key `hi` must be above it, or empty.
+    /// Without a bound `hi` must be empty.
     pub fn contains_upper_bound(&self, bound: &Bound<IVec>) -> bool
         ensures { IsTrue result ↔ ContainsUpper self.now bound.now }
     {
@@ -22,10 +24,10 @@ impl Node {
         }
     }
 
-    /// Whether the lower end of a range lies within the node, for a way forward or backward.
+    /// Returns whether the lower end of a range is within the node, for iterating forward or backward.
     ///
-    /// `lo` is not above an included key. It is below an excluded one, or forward that key itself, or empty. Without an
-    /// end `lo` is empty forward, and `hi` backward.
+    /// For an included key `lo` must not be above it. For an excluded key `lo` must be below it, or empty, or, going forward, the key
+    /// itself. Without a bound `lo` must be empty going forward, and `hi` going backward.
     pub fn contains_lower_bound(&self, bound: &Bound<IVec>, forward: bool) -> bool
         ensures { IsTrue result ↔ ContainsLower self.now forward bound.now }
     {

@@ -1,11 +1,10 @@
-//! The children of an index: which one a key leads to, and how they come to be there.
+//! The children of an index: which one a key leads to, and how one is added.
 
-ghost use Rattle.std.specs.Prelude.{◌≡◌, ◌≢◌, ◌↔◌, ◌⊎◌, ◌<◌, ◌^◌, [], ◌∷◌, true, length, map, IsTrue, IfOk, IsOk, OnErr};
+ghost use Rattle.std.specs.Prelude.{◌≡◌, ◌≢◌, ◌↔◌, ◌<◌, ◌^◌, [], ◌∷◌, map, IsTrue, IfOk, IsOk, OnErr};
 ghost use Rattle.sled_node.specs.Pairs.{IsWithinLimit, IsAscending, HasPairs};
-ghost use Rattle.sled_node.specs.Node.{IsInRange, Child};
+ghost use Rattle.sled_node.specs.Node.{Child};
 ghost use Rattle.sled_node.specs.Inserts.{HasKey, inserted};
 ghost use Rattle.sled_node.specs.Children.{index_of, BeginsAtMost, HasChildFor, IsLeadingPair, AcceptsChild, with_child};
-ghost use Rattle.sled_node.specs.Limits.{pairs_limit};
 
 use super::pairs::is_below;
 use super::{Data, Index, MAX_BYTES, Node};
@@ -13,7 +12,7 @@ use sled_base::{IVec, PageId};
 use std::alloc::{AllocError, Global};
 
 impl Node {
-    /// An index over all keys, which leads to one child. An error means that it could not be allocated.
+    /// Returns an index over all keys, which leads to one child. An error means that it could not be allocated.
     pub fn new_root(alloc: Global, child: PageId) -> Result<Node, AllocError>
         ensures { IfOk result (λ root. root ≡ index_of (([], Child child) ∷ [])) }
     {
@@ -21,9 +20,9 @@ impl Node {
         Ok(index_over_all(pairs))
     }
 
-    /// An index over all keys, which leads to one child below a key and to another from it on.
+    /// Returns an index over all keys, which leads to `left` below the key `at`, and to `right` from that key on.
     ///
-    /// The key isn't empty, and isn't longer than [`MAX_BYTES`]. An error means that the index could not be allocated.
+    /// The key must not be empty, nor longer than [`MAX_BYTES`]. An error means that the index could not be allocated.
     pub fn new_hoisted_root(
         alloc: Global,
         left: PageId,
@@ -39,7 +38,7 @@ impl Node {
         Ok(index_over_all(pairs))
     }
 
-    /// Whether this is an index with the key in its range, and the first whole key isn't above it.
+    /// Returns whether this is an index with the key in its range, whose first whole key isn't above the key.
     pub fn has_child_for(&self, key: &[u8]) -> bool
         ensures { IsTrue result ↔ HasChildFor self.now key.now }
     {
@@ -51,8 +50,9 @@ impl Node {
         }
     }
 
-    /// The place of the last pair whose whole key isn't above the key, and the page that it leads to, of a node that
-    /// [`has_child_for`](Node::has_child_for) the key.
+    /// Returns the place of the last pair whose whole key isn't above the key, and the page that it leads to.
+    ///
+    /// The node must have a child for the key, as [`has_child_for`](Node::has_child_for) tests.
     pub fn index_next_node(&self, key: &[u8]) -> (usize, PageId)
         requires { HasChildFor self.now key.now }
         ensures { IsLeadingPair self.now.pairs key.now result.0 (Child result.1) }
@@ -63,10 +63,10 @@ impl Node {
         }
     }
 
-    /// Whether the node may be asked to lead to another child from the key on, by [`parent_split`](Node::parent_split).
+    /// Returns whether [`parent_split`](Node::parent_split) may be called with this whole key.
     ///
-    /// It is an index with the whole key in its range, the key is at most [`MAX_BYTES`](super::MAX_BYTES) bytes long, and
-    /// the index has the key, or fewer than [`MAX_PAIRS`](super::MAX_PAIRS) pairs.
+    /// The node must be an index with the key in its range. The key must be at most [`MAX_BYTES`](super::MAX_BYTES) bytes long. The
+    /// index must have the key, or fewer than [`MAX_PAIRS`](super::MAX_PAIRS) pairs.
     pub fn accepts_child(&self, at: &[u8]) -> bool
         ensures { IsTrue result ↔ AcceptsChild self.now at.now }
     {
@@ -80,11 +80,11 @@ impl Node {
         }
     }
 
-    /// Leads from the key on to another child, and answers true; where the index has the key it stays as it is, and the
-    /// answer is false.
+    /// Adds a child that the index leads to from the key on, and returns true. If the index has the key already, returns false and
+    /// leaves the node unchanged.
     ///
-    /// The key is whole, and one that the node [`accepts`](Node::accepts_child). An error means that an allocation
-    /// failed, and leaves the node unchanged; a key that is there allocates nothing.
+    /// The key is whole, and [`accepts_child`](Node::accepts_child) must hold for it. An error means that an allocation failed, and
+    /// leaves the node unchanged. A key that the index has already needs no allocation.
     pub fn parent_split(&mut self, at: &[u8], to: PageId) -> Result<bool, AllocError>
         requires { AcceptsChild self.old at.now }
         ensures new { IfOk result (λ is_new. IsTrue is_new ↔ (HasKey self.old.pairs at.now → ⊥)) }

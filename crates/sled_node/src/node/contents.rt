@@ -1,4 +1,4 @@
-//! What a node's data is, for those who have no more of the node.
+//! Calls of a node's data that need nothing else of the node.
 
 ghost use Rattle.std.specs.Prelude.{◌≡◌, ◌↔◌, [], IsTrue};
 ghost use Rattle.std.specs.Option.{option_map};
@@ -11,14 +11,14 @@ use sled_base::PageId;
 use std::alloc::Global;
 
 impl Data {
-    /// A leaf with no pairs. It allocates nothing.
+    /// Returns a leaf without pairs. It allocates nothing.
     pub fn default(alloc: Global) -> Data
         ensures { result ≡ Stored [] }
     {
         Data::Leaf(Leaf::default(alloc))
     }
 
-    /// How many pairs there are.
+    /// Returns the number of pairs.
     pub fn len(&self) -> usize
         ensures { result ≡ count_of self.now }
     {
@@ -28,7 +28,7 @@ impl Data {
         }
     }
 
-    /// Whether these are the pairs of an index.
+    /// Returns whether these are the pairs of an index.
     pub fn is_index(&self) -> bool
         ensures { result ≡ is_index self.now }
     {
@@ -38,7 +38,7 @@ impl Data {
         }
     }
 
-    /// The leaf, if it is one.
+    /// Borrows the leaf, or returns None if this is an index.
     pub fn leaf_ref(&self) -> Option<&Leaf>
         ensures { option_map (λ leaf. leaf.now) result ≡ leaf_in self.now }
     {
@@ -48,7 +48,7 @@ impl Data {
         }
     }
 
-    /// The index, if it is one.
+    /// Borrows the index, or returns None if this is a leaf.
     pub fn index_ref(&self) -> Option<&Index>
         ensures { option_map (λ index. index.now) result ≡ index_in self.now }
     {
@@ -58,7 +58,7 @@ impl Data {
         }
     }
 
-    /// Whether this is an index of which a pair leads to the page.
+    /// Returns whether this is an index with a pair that leads to the page.
     pub fn leads_to(&self, pid: PageId) -> bool
         ensures { IsTrue result ↔ LeadsTo pid self.now }
     {
@@ -68,7 +68,7 @@ impl Data {
         }
     }
 
-    /// Takes the first pair that leads to the page out of an index that [`leads_to`](Data::leads_to) it.
+    /// Removes the first pair that leads to the page. This must be an index that [`leads_to`](Data::leads_to) it.
     ///
     /// Other pairs that lead to the page stay. It allocates nothing.
     pub fn parent_merge_confirm(&mut self, pid: PageId)

@@ -7,7 +7,7 @@ ghost use Rattle.std.specs.List.{AllByRecursion};
 ghost use Rattle.sled_node.specs.Pairs.{IsWithinLimit, IsAscending, HasPairs, set_pair};
 ghost use Rattle.sled_node.specs.Inserts.{HasKey, inserted};
 ghost use Rattle.sled_node.specs.Equality.{same_pairs, index_equiv};
-ghost use Rattle.sled_node.specs.Parts.{CanSet, set_stored, del_stored, LeadsTo, without_page, without_stored};
+ghost use Rattle.sled_node.specs.Parts.{CanSet, set_stored, del_stored, without_page, without_stored};
 ghost use Rattle.sled_node.specs.Limits.{pairs_limit};
 
 use super::MAX_PAIRS;
@@ -44,7 +44,7 @@ impl Model for Index {
 }
 
 impl Index {
-    /// An index with no pairs. It allocates nothing.
+    /// Returns an index without pairs. It allocates nothing.
     pub fn default(alloc: Global) -> Index
         ensures { result ≡ [] }
     {
@@ -53,10 +53,10 @@ impl Index {
         }
     }
 
-    /// An index of these pairs, or none where a key isn't above the one before it or is longer than
-    /// [`MAX_BYTES`](super::MAX_BYTES), or there are more than [`MAX_PAIRS`].
+    /// Makes an index of these pairs, or returns None if a key isn't above the one before it or is longer than
+    /// [`MAX_BYTES`](super::MAX_BYTES), or if there are more than [`MAX_PAIRS`].
     ///
-    /// It allocates nothing, so it answers no error.
+    /// It allocates nothing, so it never returns an error.
     pub fn from_pairs(
         _alloc: Global,
         pairs: Vec<(IVec, PageId)>,
@@ -72,21 +72,21 @@ impl Index {
         Ok(Some(Index { pairs }))
     }
 
-    /// How many pairs there are.
+    /// Returns the number of pairs.
     pub fn len(&self) -> usize
         ensures { result ≡ length self.now }
     {
         self.pairs.len()
     }
 
-    /// Whether there are no pairs.
+    /// Returns whether there are no pairs.
     pub fn is_empty(&self) -> bool
         ensures { IsTrue result ↔ (self.now ≡ []) }
     {
         self.pairs.is_empty()
     }
 
-    /// The stored key of the pair at place `i`, which is below [`len`](Index::len), and the page that it leads to.
+    /// Returns the stored key of the pair at place `i`, and the page that it leads to. `i` must be below [`len`](Index::len).
     ///
     /// The first pair is at place 0, and the keys ascend. A stored key lacks the first bytes of its node's `lo`.
     pub fn pair(&self, i: usize) -> (&[u8], PageId)
@@ -226,7 +226,8 @@ impl Clone for Index {
 
     ghost is_clone = { λ v w. w ≡ v };
 
-    /// The same pairs; keys above 22 bytes are shared. An error means that an allocation failed.
+    /// Copies the pairs. Keys longer than 22 bytes are shared. An error means that an allocation failed, or that a shared key has more
+    /// holders than can be counted.
     fn clone(&self) -> Result<Index, AllocError> {
         Ok(Index {
             pairs: self.pairs.clone()?,
@@ -262,7 +263,9 @@ impl Clone for Data {
 
     ghost is_clone = { λ v w. w ≡ v };
 
-    /// The same pairs; byte strings above 22 bytes are shared. An error means that an allocation failed.
+    /// Copies the pairs. Keys of an index that are longer than 22 bytes are shared, and the strings of a leaf are copied.
+    ///
+    /// An error means that an allocation failed, or that a shared key has more holders than can be counted.
     fn clone(&self) -> Result<Data, AllocError> {
         Ok(match self {
             Data::Leaf(leaf) => Data::Leaf(leaf.clone()?),

@@ -1,10 +1,10 @@
-//! A leaf as a text, for whoever looks at one while a program is written.
+//! A leaf as text, for debugging.
 
 use super::Leaf;
 use std::fmt;
 
 impl fmt::Debug for Leaf {
-    /// The pairs in their order, each string as a list of bytes: `Leaf { pairs: [([107], [118])] }`.
+    /// Writes the pairs in their order, each string as a list of bytes: `Leaf { pairs: [([107], [118])] }`.
     fn fmt<W: fmt::Write>(&self, f: &mut fmt::Formatter<W>) -> fmt::Result {
         f.debug_struct("Leaf")
             .field("pairs", &Pairs { leaf: self })

@@ -16,10 +16,11 @@ use super::pairs::{are_ascending, are_short, is_below};
 use super::{MAX_BYTES, MAX_PAIRS};
 use crate::serialization::pairs::size_of_pairs;
 use sled_base::IVec;
-use sled_base::prefix::{reencode, search_spans};
+use sled_base::prefix::{fastcmp, reencode};
 use sled_base::strings::Strings;
 use sled_base::strings::builder::StringsBuilder;
 use std::alloc::{AllocError, Global};
+use std::cmp::Ordering;
 use std::marker::Model;
 
 /// Stored keys and values, with ascending keys and within the limits of a node. Contracts see the list of the pairs.
@@ -41,7 +42,7 @@ impl Model for Leaf {
 }
 
 impl Leaf {
-    /// A leaf with no pairs. It allocates nothing.
+    /// Returns a leaf without pairs. It allocates nothing.
     pub fn default(alloc: Global) -> Leaf
         ensures { result ≡ [] }
     {
@@ -50,7 +51,7 @@ impl Leaf {
         }
     }
 
-    /// A leaf of these pairs, or none where a key isn't above the one before it, a key or a value is longer than
+    /// Makes a leaf of these pairs, or returns None if a key isn't above the one before it, a key or a value is longer than
     /// [`MAX_BYTES`], or there are more than [`MAX_PAIRS`].
     /// An error means that an allocation failed.
     pub fn from_pairs(alloc: Global, pairs: Vec<(IVec, IVec)>) -> Result<Option<Leaf>, AllocError>
@@ -81,21 +82,21 @@ impl Leaf {
         })
     }
 
-    /// How many pairs there are.
+    /// Returns the number of pairs.
     pub fn len(&self) -> usize
         ensures { result ≡ length self.now }
     {
         self.strings.len() / 2
     }
 
-    /// Whether there are no pairs.
+    /// Returns whether there are no pairs.
     pub fn is_empty(&self) -> bool
         ensures { IsTrue result ↔ (self.now ≡ []) }
     {
         self.strings.len() == 0
     }
 
-    /// The stored key and the value of the pair at place `i`, which is below [`len`](Leaf::len).
+    /// Returns the stored key and the value of the pair at place `i`, which must be below [`len`](Leaf::len).
     ///
     /// The first pair is at place 0, and the keys ascend. A stored key lacks the first bytes of its node's `lo`.
     #[inline(always)]
@@ -137,7 +138,17 @@ impl Leaf {
         ensures same { IfOk result (HoldsAt (λ pair. pair.0 ≡ key.now) self.now) }
         ensures missing { IfErr result (IsGap self.now key.now) }
     {
-        search_spans(key, &self.strings, self.len())
+        let mut low = 0;
+        let mut high = self.len();
+        while low < high {
+            let middle = low + (high - low) / 2;
+            match fastcmp(self.strings.get(middle), key) {
+                Ordering::Less => low = middle + 1,
+                Ordering::Equal => return Ok(middle),
+                Ordering::Greater => high = middle,
+            }
+        }
+        Err(low)
     }
 
     // The pairs from one place to another, with stored keys that lack so many bytes in place of those of `front`.
@@ -289,7 +300,7 @@ impl Clone for Leaf {
 
     ghost is_clone = { λ v w. w ≡ v };
 
-    /// The same pairs. An error means that an allocation failed.
+    /// Copies the pairs. An error means that an allocation failed.
     fn clone(&self) -> Result<Leaf, AllocError> {
         Ok(Leaf {
             strings: self.strings.clone()?,

@@ -11,13 +11,13 @@ pub enum Link {
     /// Maps the key to the value, in a leaf. Neither the whole key nor the value is longer than
     /// [`MAX_BYTES`](super::MAX_BYTES).
     Set(IVec, IVec),
-    /// Takes the key out of a leaf, if it is there. The whole key isn't longer than [`MAX_BYTES`](super::MAX_BYTES).
+    /// Removes the key from a leaf, if it is there. The whole key isn't longer than [`MAX_BYTES`](super::MAX_BYTES).
     Del(IVec),
     /// Marks the child on this page, which isn't 0, as being merged into its left neighbour.
     ParentMergeIntention(PageId),
-    /// Takes the marked child out of an index, and the mark away.
+    /// Removes the first pair that leads to the marked child from an index, and the mark.
     ParentMergeConfirm,
-    /// Marks the node itself as being merged. It takes no link any more.
+    /// Marks the node itself as being merged. It then accepts no more links.
     ChildMergeCap,
 }
 
@@ -26,7 +26,7 @@ impl Clone for Link {
 
     ghost is_clone = { λ v w. w ≡ v };
 
-    /// The same link; byte strings above 22 bytes are shared. An error means that there are more holders than can be counted.
+    /// Copies the link. Byte strings longer than 22 bytes are shared. An error means that there are more holders than can be counted.
     fn clone(&self) -> Result<Link, AllocError> {
         Ok(match self {
             Link::Set(key, value) => Link::Set(key.clone()?, value.clone()?),

@@ -1,4 +1,4 @@
-//! What a link asks of a node, and what it does to it.
+//! What a link requires of a node, and what it does to it.
 
 ghost use Rattle.std.specs.Prelude.{◌≡◌, ◌↔◌, IsTrue, OnOk, OnErr};
 ghost use Rattle.sled_node.specs.Links.{AcceptsHere, applied};

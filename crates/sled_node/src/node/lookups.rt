@@ -14,9 +14,9 @@ use sled_base::IVec;
 use std::alloc::AllocError;
 
 impl Node {
-    /// The stored key and the value of a whole key, or none where the leaf lacks the key.
+    /// Returns the stored key and the value of a whole key, or None if the leaf lacks the key.
     ///
-    /// The node has to be a leaf; the key may be out of its range. It allocates nothing.
+    /// The node must be a leaf. The key may be out of its range. It allocates nothing.
     pub fn leaf_pair_for_key(&self, key: &[u8]) -> Option<(&[u8], &[u8])>
         requires leaf { self.now.is_index ≡ false }
         ensures key { IfSome result (λ pair. whole self.now pair.0.now ≡ key.now) }
@@ -29,9 +29,10 @@ impl Node {
         }
     }
 
-    /// The stored key of a whole key, and the key's value, or no value where the leaf lacks the key.
+    /// Returns the stored key of a whole key, and the key's value, or no value if the leaf lacks the key.
     ///
-    /// The node has to be a leaf that [`contains_key`](Node::contains_key), whether the key is there or not. An error means that a copy could not be allocated.
+    /// The node must be a leaf with the key in its range, as [`contains_key`](Node::contains_key) tests. The key may be absent. An error
+    /// means that a copy could not be allocated.
     pub fn node_kv_pair(&self, key: &[u8]) -> Result<(IVec, Option<IVec>), AllocError>
         requires leaf { self.now.is_index ≡ false }
         requires in_range { IsInRange self.now key.now }

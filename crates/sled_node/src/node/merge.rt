@@ -1,6 +1,6 @@
-//! Taking in the right neighbour.
+//! Merging a node with its right neighbour.
 
-ghost use Rattle.std.specs.Prelude.{◌≡◌, ◌↔◌, ◌≤◌, ◌++◌, take, length, IsTrue, IfOk};
+ghost use Rattle.std.specs.Prelude.{◌≡◌, ◌↔◌, ◌++◌, IsTrue, IfOk};
 ghost use Rattle.sled_node.specs.Parts.{is_index, HasStored};
 ghost use Rattle.sled_node.specs.Splitting.{CanReceive, merged};
 ghost use Rattle.sled_node.specs.Restoring.{restored, restored_data, joined_data};
@@ -11,8 +11,8 @@ use sled_base::IVec;
 use std::alloc::AllocError;
 
 impl Node {
-    /// Whether this node can take in `right`: both are of one kind, this one has an end, `right` begins there, and together
-    /// they have at most [`MAX_PAIRS`] pairs.
+    /// Returns whether `right` can be merged into this node: both are of the same kind, this one has an end, `right` begins there, and
+    /// together they have at most [`MAX_PAIRS`] pairs.
     pub fn can_receive(&self, right: &Node) -> bool
         ensures { IsTrue result ↔ CanReceive self.now right.now }
     {
@@ -22,10 +22,10 @@ impl Node {
             && self.len() <= MAX_PAIRS - right.len()
     }
 
-    /// This node with the pairs of its right neighbour after its own, where it [`can_receive`](Node::can_receive) them.
+    /// Returns this node with the pairs of its right neighbour after its own. [`can_receive`](Node::can_receive) must hold.
     ///
-    /// It has this node's marks, and the neighbour's end and next. Stored keys lack what its bounds have in common, up to
-    /// 255 bytes. Both nodes are left as they are. An error means that an allocation failed.
+    /// The result has this node's marks, and the neighbour's end and next. Its stored keys lack what its bounds have in common, up to
+    /// 255 bytes. Both nodes are unchanged. An error means that an allocation failed.
     pub fn receive_merge(&self, right: &Node) -> Result<Node, AllocError>
         requires { CanReceive self.now right.now }
         ensures { IfOk result (λ node. node ≡ merged self.now right.now) }

@@ -12,10 +12,10 @@ use std::alloc::AllocError;
 use std::ops::Bound;
 
 impl Node {
-    /// The whole key and the value of the leaf's first pair after the bound, or none where no pair is after it.
+    /// Returns the whole key and the value of the leaf's first pair after the bound, or None if no pair is after it.
     ///
-    /// An included key is after its own bound, and without a bound all keys are. The node has to be a leaf; the bound may be
-    /// out of its range. An error means that the copy could not be allocated.
+    /// The key of an included bound counts as after it, and without a bound all keys do. The node must be a leaf. The bound may be out
+    /// of its range. An error means that the copy could not be allocated.
     pub fn successor(&self, bound: &Bound<IVec>) -> Result<Option<(IVec, IVec)>, AllocError>
         requires leaf { self.now.is_index ≡ false }
         ensures least { IfOk result
@@ -29,10 +29,10 @@ impl Node {
         Ok(Some(self.whole_pair(first)?))
     }
 
-    /// The whole key and the value of the leaf's last pair before the bound, or none where no pair is before it.
+    /// Returns the whole key and the value of the leaf's last pair before the bound, or None if no pair is before it.
     ///
-    /// An included key is before its own bound, and without a bound all keys are. The node has to be a leaf; the bound may be
-    /// out of its range. An error means that the copy could not be allocated.
+    /// The key of an included bound counts as before it, and without a bound all keys do. The node must be a leaf. The bound may be out
+    /// of its range. An error means that the copy could not be allocated.
     pub fn predecessor(&self, bound: &Bound<IVec>) -> Result<Option<(IVec, IVec)>, AllocError>
         requires leaf { self.now.is_index ≡ false }
         ensures greatest { IfOk result
@@ -46,10 +46,10 @@ impl Node {
         }
     }
 
-    /// The place of the leaf's first pair behind the bound, or the number of pairs where none is behind it.
+    /// Returns the place of the leaf's first pair after the bound, or the number of pairs if none is after it.
     ///
-    /// An included key is behind its own bound, and without a bound all keys are. The node has to be a leaf; the bound may be out of its
-    /// range.
+    /// The key of an included bound counts as after it, and without a bound all keys do. The node must be a leaf. The bound may be out
+    /// of its range.
     pub fn first_behind(&self, bound: &Bound<IVec>) -> usize
         requires leaf { self.now.is_index ≡ false }
         ensures { IsCount (λ key. IsBehind bound.now key
@@ -62,10 +62,10 @@ impl Node {
         }
     }
 
-    /// The place after the leaf's last pair before the bound, or 0 where none is before it.
+    /// Returns the place that follows the leaf's last pair before the bound, or 0 if none is before it.
     ///
-    /// An included key is before its own bound, and without a bound all keys are. The node has to be a leaf; the bound may be out of its
-    /// range.
+    /// The key of an included bound counts as before it, and without a bound all keys do. The node must be a leaf. The bound may be out
+    /// of its range.
     pub fn end_before(&self, bound: &Bound<IVec>) -> usize
         requires leaf { self.now.is_index ≡ false }
         ensures { IsCount (IsBefore bound.now) (λ key. IsBefore bound.now key
@@ -102,7 +102,9 @@ impl Node {
         }
     }
 
-    /// A copy of the leaf's pair at a place, with its whole key. An error means that the copy could not be allocated.
+    /// Copies the pair at a place, with its whole key. The node must be a leaf, and the place must be below [`len`](Node::len).
+    ///
+    /// An error means that the copy could not be allocated.
     pub fn whole_pair(&self, place: usize) -> Result<(IVec, IVec), AllocError>
         requires leaf { self.now.is_index ≡ false }
         requires within { place < length self.now.pairs }

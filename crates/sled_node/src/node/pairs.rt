@@ -8,14 +8,14 @@ ghost use Rattle.sled_node.specs.Pairs.{IsWithinLimit, IsAscending, StandsAt, Is
 use super::MAX_BYTES;
 use sled_base::IVec;
 
-/// Whether the first bytes are below the second.
+/// Returns whether `left` is below `right`.
 pub fn is_below(left: &[u8], right: &[u8]) -> bool
     ensures { IsTrue result ↔ IsBelow left.now right.now }
 {
     left.cmp(&right).is_lt()
 }
 
-/// Where the key stands, or else where it would.
+/// Returns the place of the key, or, as the error, the place where it would be inserted. The keys must ascend.
 pub fn place_of_key<V>(pairs: &[(IVec, V)], key: &[u8]) -> Result<usize, usize>
     requires { IsAscending pairs.now }
     ensures found { IfOk result (StandsAt pairs.now key.now) }
@@ -25,7 +25,7 @@ pub fn place_of_key<V>(pairs: &[(IVec, V)], key: &[u8]) -> Result<usize, usize>
     pairs.binary_search_by(|pair| pair.0.as_slice().cmp(&key))
 }
 
-/// Whether each key is below the next.
+/// Returns whether each key is below the next.
 pub fn are_ascending<V>(pairs: &[(IVec, V)]) -> bool
     ensures { IsTrue result ↔ IsAscending pairs.now }
 {
@@ -37,7 +37,7 @@ pub fn are_ascending<V>(pairs: &[(IVec, V)]) -> bool
     true
 }
 
-/// Whether each key is within the limit.
+/// Returns whether no key is longer than [`MAX_BYTES`].
 pub fn are_short<V>(pairs: &[(IVec, V)]) -> bool
     ensures { IsTrue result ↔ AllByRecursion (λ pair. IsWithinLimit pair.0) pairs.now }
 {

@@ -13,7 +13,7 @@ use super::{Data, Leaf, MAX_BYTES};
 use sled_base::IVec;
 use std::num::NonZeroU64;
 
-/// Whether a node may have these bounds, and stored keys that lack this many bytes.
+/// Returns whether a node may have these bounds, and stored keys that lack `skipped` bytes.
 pub fn are_bounds(skipped: usize, lo: &IVec, hi: &IVec) -> bool
     ensures { IsTrue result ↔ AreBounds skipped lo.now hi.now }
 {
@@ -27,7 +27,7 @@ pub fn are_bounds(skipped: usize, lo: &IVec, hi: &IVec) -> bool
     is_below(lo, hi) && have_common(skipped, lo, hi)
 }
 
-/// The bytes of a bound behind those that stored keys lack.
+/// Returns the bytes of a bound after those that stored keys lack.
 pub fn rest_of(bound: &IVec, skipped: usize) -> &[u8]
     requires { skipped ≤ length bound.now }
     ensures { result.now ≡ take (length bound.now - skipped) (drop skipped bound.now) }
@@ -35,7 +35,7 @@ pub fn rest_of(bound: &IVec, skipped: usize) -> &[u8]
     &bound.as_slice()[skipped..]
 }
 
-/// Whether the keys that are stored are within the rest of the bounds, and no longer than `most`.
+/// Returns whether the stored keys are within the rest of the bounds, and no longer than `most`.
 pub fn are_stored_within(contents: &Data, lo: &[u8], hi: &[u8], most: usize) -> bool
     ensures within { IsTrue result ↔ AreStoredWithin lo.now hi.now most contents.now }
     ensures stored { HasStored contents.now }
@@ -46,7 +46,7 @@ pub fn are_stored_within(contents: &Data, lo: &[u8], hi: &[u8], most: usize) -> 
     }
 }
 
-/// Does nothing. A page that is there is another than 0, and a proof learns it here.
+/// Does nothing. It shows a proof that a page, if there is one, isn't 0.
 pub fn know_page(page: Option<NonZeroU64>)
     ensures { IfSome (option_map non_zero_u64_get page) IsPage }
 {

@@ -1,6 +1,6 @@
 //! Payloads of what a node holds.
 
-ghost use Rattle.std.specs.Prelude.{◌≡◌, ◌<◌, ◌≤◌, ◌^◌, ◌++◌, length, drop, IfOk, IfErr, OnErr};
+ghost use Rattle.std.specs.Prelude.{◌≡◌, ◌<◌, ◌≤◌, ◌^◌, ◌++◌, length, map, drop, IfSome, IfOk, IfErr, OnErr};
 ghost use Rattle.sled_node.specs.Parts.{HasStored};
 ghost use Rattle.sled_base.specs.Payloads.Reading.{IsRefusal};
 ghost use Rattle.sled_base.specs.Payloads.ReadingLaws.{some_taken};
@@ -11,13 +11,15 @@ ghost use Rattle.sled_node.specs.Payloads.Data.{ReadsLeaf, ReadsIndex, ReadsData
 ghost use Rattle.sled_node.specs.Payloads.DataLaws.{Data-grammar};
 ghost use Rattle.sled_node.specs.Payloads.Nodes.{ReadsNode, AsksNode, written_node};
 ghost use Rattle.sled_node.specs.Payloads.NodeLaws.{Node-grammar};
-ghost use Rattle.sled_node.specs.Node.{IsWellFormed};
+ghost use Rattle.sled_node.specs.Node.{Value, IsWellFormed, leaf_of};
 
-use super::{Data, Index, Leaf, Node};
+use super::{Data, Index, Leaf, MAX_PAIRS, Node};
 use crate::serialization::Serialize;
 use crate::serialization::pairs::{read_pairs, size_of_pairs, split_pairs, write_pairs};
-use crate::serialization::strings::read_strings;
+use crate::serialization::strings::{behind, read_each};
+use sled_base::serialization::numbers::read_u64;
 use sled_base::serialization::tuples::{size_of_three, write_at, write_three, write_three_at};
+use sled_base::strings::Strings;
 use sled_base::{Error, IVec};
 use std::alloc::{AllocError, Global};
 use std::num::NonZeroU64;
@@ -141,6 +143,10 @@ fn read_leaf(alloc: Global, input: &mut &[u8]) -> Result<Leaf, Error>
     ensures refused { IfErr result (IsRefusal AsksPairs ReadsLeaf input.old.now) }
     ensures stays { OnErr result (input.new ≡ input.old) }
 {
+    if let Some((leaf, rest)) = plain_leaf(alloc, *input) {
+        *input = rest;
+        return Ok(leaf);
+    }
     let Some((count, keys, _)) = split_pairs::<IVec>(*input) else {
         return Err(Error::Corruption(None));
     };
@@ -149,7 +155,7 @@ fn read_leaf(alloc: Global, input: &mut &[u8]) -> Result<Leaf, Error>
         *input = rest;
         return Ok(Leaf::default(alloc));
     }
-    let strings = read_strings(alloc, 2 * count, &mut rest)?;
+    let strings = read_each(alloc, 2 * count, &mut rest)?;
     match Leaf::of_strings(strings) {
         Some(leaf) => {
             *input = rest;
@@ -157,6 +163,23 @@ fn read_leaf(alloc: Global, input: &mut &[u8]) -> Result<Leaf, Error>
         }
         None => Err(Error::Corruption(None)),
     }
+}
+
+// A leaf with pairs, whose strings are copied as they lie there, and what stands behind it.
+//
+// None doesn't mean that there is none: an allocation may have failed, or a length may take more than a byte.
+fn plain_leaf(alloc: Global, input: &[u8]) -> Option<(Leaf, &[u8])>
+    ensures { IfSome result (λ found. ReadsLeaf input.now found.0 found.1.now) }
+{
+    let (count, keys) = read_u64(input)?;
+    if count == 0 || count > MAX_PAIRS as u64 || count > keys.len() as u64 / 2 {
+        return None;
+    }
+    let Ok(Some(strings)) = Strings::read_plain(alloc, 2 * count as usize, keys) else {
+        return None;
+    };
+    let rest = behind(&strings, keys);
+    Some((Leaf::of_strings(strings)?, rest))
 }
 
 // Reads the pairs of an index.
@@ -173,6 +196,22 @@ fn read_index(alloc: Global, input: &mut &[u8]) -> Result<Index, Error>
             Ok(index)
         }
         None => Err(Error::Corruption(None)),
+    }
+}
+
+// A node of these pairs over all keys, without a neighbour or a mark. It is written as seven zeros and the pairs.
+fn over_all_keys(leaf: Leaf) -> Node
+    ensures { result ≡ leaf_of (map (λ pair. (pair.0, Value pair.1)) leaf) }
+{
+    let _ = leaf.strings();
+    Node {
+        next: None,
+        merging_child: None,
+        merging: false,
+        prefix_len: 0,
+        lo: IVec::default(),
+        hi: IVec::default(),
+        contents: Data::Leaf(leaf),
     }
 }
 
@@ -220,6 +259,12 @@ impl Serialize for Node {
     }
 
     fn deserialize(alloc: Global, input: &mut &[u8]) -> Result<Node, Error> {
+        if let [0, 0, 0, 0, 0, 0, 0, pairs @ ..] = *input {
+            let mut rest = pairs;
+            let leaf = read_leaf(alloc, &mut rest)?;
+            *input = rest;
+            return Ok(over_all_keys(leaf));
+        }
         let mut rest = *input;
         let parts = <Parts as Serialize>::deserialize(alloc, &mut rest)?;
         let ((next, merging_child, merging), (prefix_len, lo, hi), contents) = parts;

@@ -1,4 +1,4 @@
-//! How large a node is, and whether it is to be split or merged.
+//! How large a node is, and whether it should be split or merged.
 
 ghost use Rattle.std.specs.Prelude.{◌≡◌, ◌↔◌, ◌<◌, ◌≤◌, ◌^◌, IsTrue};
 ghost use Rattle.sled_node.specs.Pairs.{HasPairs};
@@ -26,8 +26,8 @@ const NODE_BYTES: u64 = 128;
 const PAGE_BYTES: u64 = 8;
 
 impl Node {
-    /// Whether the node is to be split: a leaf has more than 16 pairs or an index more than 256, and neither a child of
-    /// the node nor the node itself is being merged.
+    /// Returns whether the node should be split: it is a leaf with more than 16 pairs or an index with more than 256, and neither a
+    /// child of the node nor the node itself is being merged.
     pub fn should_split(&self) -> bool
         ensures { IsTrue result ↔ ShouldSplit self.now }
     {
@@ -39,8 +39,8 @@ impl Node {
         self.len() > most && self.is_unmarked()
     }
 
-    /// Whether the node is to be merged: a leaf has fewer than 4 pairs or an index fewer than 64, and neither a child of
-    /// the node nor the node itself is being merged.
+    /// Returns whether the node should be merged: it is a leaf with fewer than 4 pairs or an index with fewer than 64, and neither a
+    /// child of the node nor the node itself is being merged.
     pub fn should_merge(&self) -> bool
         ensures { IsTrue result ↔ ShouldMerge self.now }
     {
@@ -52,15 +52,15 @@ impl Node {
         self.len() < fewest && self.is_unmarked()
     }
 
-    /// Whether a child of the node may be merged: none is, and the node itself isn't.
+    /// Returns whether a child of the node may be merged: no child is being merged, nor is the node itself.
     pub fn can_merge_child(&self) -> bool
         ensures { IsTrue result ↔ IsUnmarked self.now }
     {
         self.is_unmarked()
     }
 
-    /// How large the node is, in bytes: 128, the lengths of its bounds, and for each pair the lengths of the stored key and of the
-    /// value, or 8 for a page.
+    /// Returns the size of the node in bytes: 128, the lengths of its bounds, and for each pair the length of the stored key and that
+    /// of the value, or 8 for a page.
     pub fn rss(&self) -> u64
         ensures value { result ≡ node_size self.now }
         ensures bound { result < 2 ^ 57 }
@@ -77,7 +77,7 @@ impl Node {
 }
 
 impl Data {
-    /// How large the pairs are, in bytes: for each the lengths of the stored key and of the value, or 8 for a page.
+    /// Returns the size of the pairs in bytes: for each the length of the stored key and that of the value, or 8 for a page.
     pub fn rss(&self) -> u64
         ensures value { result ≡ data_size self.now }
         ensures bound { result ≤ 2 ^ 56 }

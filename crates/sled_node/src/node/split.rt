@@ -1,4 +1,4 @@
-//! Splitting a node in two, and leading from the one part to the other.
+//! Splitting a node in two, and linking the left part to the right one.
 
 ghost use Rattle.std.specs.Prelude.{◌≡◌, ◌+◌, ◌/◌, ◌<◌, ◌≤◌, take, drop, length, Some, IfOk, OnOk};
 ghost use Rattle.std.specs.Int.NonZero.{non_zero_u64_get};
@@ -15,12 +15,12 @@ use std::alloc::AllocError;
 use std::num::NonZeroU64;
 
 impl Node {
-    /// Splits a node of three pairs or more in two. The left has the first `len / 2 + 1` of them, the right the others.
+    /// Splits a node of at least three pairs in two. The left part has the first `len / 2 + 1` pairs, and the right part the others.
     ///
-    /// The left begins where the node did, and the right ends where it did. They meet at a separator, the least key of
-    /// the right, which in a leaf is cut to one byte past what it shares with the greatest key of the left. The left
-    /// keeps the marks and has no next; the right keeps the next and has no marks. Stored keys lack what the bounds of
-    /// their own part have in common, up to 255 bytes. An error means that an allocation failed, and the node is let go.
+    /// The left part begins where the node did, and the right part ends where it did. They meet at a separator, the least key of the
+    /// right part. In a leaf the separator is cut to one byte past what it shares with the greatest key of the left part. The left part
+    /// keeps the marks and has no next. The right part keeps the next and has no marks. Stored keys lack what the bounds of their own
+    /// part have in common, up to 255 bytes. An error means that an allocation failed, and drops the node.
     pub fn split(self) -> Result<(Node, Node), AllocError>
         requires { 3 ≤ length self.pairs }
         ensures parts { IfOk result (λ parts. Splits self parts.0 parts.1) }
@@ -30,10 +30,11 @@ impl Node {
         self.split_behind(count)
     }
 
-    /// Splits a node in two, as [`split`](Node::split), but behind so many pairs, of which there are more: where keys only
-    /// rise, a left part that has all pairs but the last stays full.
+    /// Splits a node in two as [`split`](Node::split) does, but after the first `count` pairs. There must be more than `count` pairs, and
+    /// `count` must be at least 1.
     ///
-    /// An error means that an allocation failed, and the node is let go.
+    /// If keys are only added in ascending order, a left part with all pairs except the last stays full. An error means that an allocation
+    /// failed, and drops the node.
     pub fn split_behind(self, count: usize) -> Result<(Node, Node), AllocError>
         requires some { 1 ≤ count }
         requires others { count < length self.pairs }
@@ -44,8 +45,7 @@ impl Node {
         self.split_at(count, separator)
     }
 
-    /// Sets the page of the node to the right, as for the left part of a split, which leads on to the right one. It
-    /// allocates nothing.
+    /// Sets the page of the node to the right, for example to link the left part of a split to the right one. It allocates nothing.
     pub fn set_next(&mut self, page: NonZeroU64)
         ensures { self.new ≡ record self.old { next = Some (non_zero_u64_get page) } }
     {

@@ -1,4 +1,4 @@
-//! Which first bytes stored keys lack, and changing that.
+//! Which first bytes stored keys lack, and storing keys with another prefix.
 
 ghost use Rattle.std.specs.Prelude.{◌≡◌, ◌++◌, drop, IfOk, OnOk};
 ghost use Rattle.sled_node.specs.Splitting.{common_length, own_prefix};
@@ -8,7 +8,7 @@ use sled_base::IVec;
 use sled_base::prefix::decode;
 use std::alloc::{AllocError, Global};
 
-/// How many first bytes two strings have in common.
+/// Returns how many first bytes two strings have in common.
 pub fn common_len(left: &[u8], right: &[u8]) -> usize
     ensures { result ≡ common_length left.now right.now }
 {
@@ -21,16 +21,16 @@ pub fn common_len(left: &[u8], right: &[u8]) -> usize
     most
 }
 
-/// How many bytes stored keys lack between these bounds: those that the bounds have in common, up to 255.
+/// Returns how many bytes stored keys lack between these bounds: those that the bounds have in common, up to 255.
 pub fn own_prefix(lo: &IVec, hi: &IVec) -> u8
     ensures { result ≡ own_prefix lo.now hi.now }
 {
     common_len(lo.as_slice(), hi.as_slice()).min(u8::MAX as usize) as u8
 }
 
-/// Makes each stored key lack `skipped` bytes in place of those of `front`.
+/// Makes each stored key lack the first `skipped` bytes of the whole key, where it lacked `front` before.
 ///
-/// The keys stay as they are where these are as many. An error leaves some of them changed and others not.
+/// The keys are unchanged if `front` has `skipped` bytes. An error leaves some of the keys changed and others not.
 pub fn store_without<V>(
     pairs: &mut Vec<(IVec, V)>,
     front: &[u8],

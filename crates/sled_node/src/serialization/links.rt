@@ -1,4 +1,4 @@
-//! Links.
+//! The encoding of links.
 
 ghost use Rattle.std.specs.Prelude.{◌≡◌, IfOk, IfErr, OnErr};
 ghost use Rattle.sled_base.specs.Payloads.Reading.{IsRefusal, ReadsPair, AsksPair};

@@ -1,4 +1,4 @@
-//! The pairs of a node: a count, all keys, and then all items.
+//! The encoding of the pairs of a node: a count, all keys, and then all items.
 
 ghost use Rattle.std.specs.Prelude.{◌≡◌, ◌+◌, ◌*◌, ◌<◌, ◌≤◌, ◌^◌, ◌++◌, [], length, drop, take, IfSome, IfNone, IfOk, IfErr, OnErr};
 ghost use Rattle.std.specs.List.{flat_map, AllByRecursion};

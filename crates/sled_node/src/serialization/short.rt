@@ -1,4 +1,4 @@
-//! The byte strings of a link, and the names of roots.
+//! The encoding of the byte strings of a link, and of the names of roots.
 
 ghost use Rattle.std.specs.Prelude.{◌≡◌, IfSome, IfNone, IfOk, IfErr, OnErr};
 ghost use Rattle.sled_base.specs.Payloads.Reading.{ReadsNoValue, IsRefusal};

@@ -1,4 +1,4 @@
-//! The strings of a leaf, which lie one after the other.
+//! The encoding of the strings of a leaf, one after the other.
 
 ghost use Rattle.std.specs.Prelude.{◌≡◌, ⊤, length, IfOk, IfErr, OnErr};
 ghost use Rattle.sled_base.specs.Payloads.Reading.{IsRefusal};
@@ -13,30 +13,16 @@ use sled_base::strings::Strings;
 use sled_base::strings::builder::StringsBuilder;
 use std::alloc::Global;
 
-// Reads so many strings. They are copied as they lie there, unless a length has more than a byte.
-pub fn read_strings(alloc: Global, count: usize, input: &mut &[u8]) -> Result<Strings, Error>
-    ensures read { IfOk result
-        (λ strings. ReadsCount count ReadsBytes input.old.now strings input.new.now) }
-    ensures refused { IfErr result (IsRefusal (λ _. ⊤) (ReadsCount count ReadsShort) input.old.now) }
-    ensures stays { OnErr result (input.new ≡ input.old) }
-{
-    let Some(strings) = Strings::read_plain(alloc, count, *input)? else {
-        return read_each(alloc, count, input);
-    };
-    *input = behind(&strings, *input);
-    Ok(strings)
-}
-
 // What stands behind strings that the input begins with.
-fn behind<'a>(strings: &Strings, input: &'a [u8]) -> &'a [u8]
+pub fn behind<'a>(strings: &Strings, input: &'a [u8]) -> &'a [u8]
     requires { BeginsWith (length strings.now) strings.now input.now }
     ensures { ReadsAll ReadsBytes input.now strings.now result.now }
 {
     &input[strings.written().len()..]
 }
 
-// The same one by one. What they take as they are written is no more than they take here.
-fn read_each(alloc: Global, count: usize, input: &mut &[u8]) -> Result<Strings, Error>
+// Reads so many strings one by one. What they take as they are written is no more than they take here.
+pub fn read_each(alloc: Global, count: usize, input: &mut &[u8]) -> Result<Strings, Error>
     ensures read { IfOk result
         (λ strings. ReadsCount count ReadsBytes input.old.now strings input.new.now) }
     ensures refused { IfErr result (IsRefusal (λ _. ⊤) (ReadsCount count ReadsShort) input.old.now) }

@@ -1,3 +1,4 @@
+use super::parts::is_over;
 use super::*;
 
 pub(super) fn push(
@@ -12,19 +13,40 @@ pub(super) fn push(
     Ok(())
 }
 
-// A leaf of these keys, each with the value `v`.
-pub(super) fn leaf_of(alloc: Global, keys: &[&[u8]]) -> Result<Option<Leaf>, AllocError> {
+// These keys, each with the value `v`.
+fn pairs_of(alloc: Global, keys: &[&[u8]]) -> Result<Vec<(IVec, IVec)>, AllocError> {
     let mut pairs = vec![in alloc]?;
     for key in keys {
         push(alloc, &mut pairs, key, b"v")?;
     }
+    Ok(pairs)
+}
+
+// A leaf of these keys, each with the value `v`.
+pub(super) fn leaf_of(alloc: Global, keys: &[&[u8]]) -> Result<Option<Leaf>, AllocError> {
+    let pairs = pairs_of(alloc, keys)?;
     Leaf::from_pairs(alloc, pairs)
+}
+
+// The node over all keys that has such a leaf.
+fn leaf_node(alloc: Global, keys: &[&[u8]]) -> Result<Option<Node>, AllocError> {
+    let pairs = pairs_of(alloc, keys)?;
+    Node::leaf_of(alloc, pairs)
 }
 
 // Whether there is such a leaf, of so many pairs, or is none.
 fn is_leaf(alloc: Global, keys: &[&[u8]], is_so: bool) -> bool {
     match leaf_of(alloc, keys) {
         Ok(Some(leaf)) => is_so && leaf.len() == keys.len(),
+        Ok(None) => !is_so,
+        Err(_) => false,
+    }
+}
+
+// Whether there is such a node over all keys, or is none.
+fn is_node(alloc: Global, keys: &[&[u8]], is_so: bool) -> bool {
+    match leaf_node(alloc, keys) {
+        Ok(Some(node)) => is_so && node.len() == keys.len() && is_over(&node, 0, b"", b""),
         Ok(None) => !is_so,
         Err(_) => false,
     }
@@ -47,6 +69,7 @@ const KEYS: &[(&[&[u8]], bool)] = &[
 fn leaves_have_ascending_keys(rt: HostRuntime) {
     for (keys, is_so) in KEYS {
         assert!(rt; is_leaf(rt.alloc(), keys, *is_so), "{keys:?}");
+        assert!(rt; is_node(rt.alloc(), keys, *is_so), "{keys:?}");
     }
 }
 

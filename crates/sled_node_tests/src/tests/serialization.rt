@@ -229,6 +229,10 @@ const FORGED: &[(Kind, &[u8])] = &[
     (Kind::Link, &[0, 250, 255, 255, 255, 1, 1]),
     (Kind::Link, &[1, 255, 0, 0, 0, 0, 0, 0, 0, 1]),
     (Kind::Node, &[0, 0, 0, 0, 252, 0, 0, 0, 0, 1, 0, 0]),
+    (
+        Kind::Node,
+        &[0, 0, 0, 0, 0, 0, 0, 250, 0, 0, 1, 1, 97, 1, 98],
+    ),
 ];
 
 const NO_LINKS: &[(Kind, &[u8])] = &[
@@ -271,8 +275,12 @@ const NO_NODES: &[(Kind, &[u8])] = &[
     // A key below the lower bound, and one that isn't below the upper bound.
     (Kind::Node, &[0, 0, 0, 0, 1, 98, 0, 0, 1, 1, 97, 0]),
     (Kind::Node, &[0, 0, 0, 0, 0, 1, 98, 0, 1, 1, 98, 0]),
-    // Equal keys.
+    // Equal keys, and keys that fall.
     (Kind::Node, &[0, 0, 0, 0, 0, 0, 0, 2, 1, 97, 1, 97, 0, 0]),
+    (Kind::Node, &[0, 0, 0, 0, 0, 0, 0, 2, 1, 98, 1, 97, 0, 0]),
+    // A leaf over all keys that lacks a value, and another tag behind seven zeros.
+    (Kind::Node, &[0, 0, 0, 0, 0, 0, 0, 2, 1, 97, 1, 98, 0]),
+    (Kind::Node, &[0, 0, 0, 0, 0, 0, 2, 0]),
 ];
 
 #[test]

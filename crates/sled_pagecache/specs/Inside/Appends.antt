@@ -1,4 +1,4 @@
--- What a call that appends an update of one page to the log promises: where the append was made, and where it was refused.
+-- What a call promises that appends an update of one page to the log: if the append succeeds, and if it fails.
 use Rattle.std.specs.Prelude.{◌≡◌, ◌≢◌, ◌⊎◌, ◌++◌, ℕ, false, List, [], ◌∷◌, length, map, slice_get, slice_set, IfSome, Result, Ok, Err}
 use Rattle.std.specs.List.{AllByRecursion}
 use Rattle.sled_base.specs.declared.types.Refusal.{Refusal}
@@ -17,13 +17,13 @@ use Rattle.sled_pagecache.specs.Limits.{most_pages}
 use Rattle.sled_pagecache.specs.Inside.StickyLog.{Went, IsCaused, IsOfLog, begun_by}
 use Rattle.sled_pagecache.specs.Inside.PageWrites.{IsRaised, RefusesSwap, content_of}
 use Rattle.sled_pagecache.specs.declared.pagecache.memory.accesses.Accesses.{Accesses}
-use Rattle.sled_pagecache.specs.declared.pagecache.table.page.Kept.{Kept}
-use Rattle.sled_pagecache.specs.declared.pagecache.table.page.Page.{Page}
+use Rattle.sled_pagecache.specs.declared.pagecache.table.page_entry.PageContent.{PageContent}
+use Rattle.sled_pagecache.specs.declared.pagecache.table.page_entry.Page.{Page}
 use Rattle.sled_pagecache.specs.declared.pagecache.write.sticky_log.StickyLog.{StickyLog}
 
 module _ {L : Type 0} (g : Ghosts L) (pid : ℕ) (update : Update) (old new : StickyLog L) (accesses then : Accesses) where
-  -- The update was appended. The page was accessed, and is kept at such a stamp, by this message alone; the others stay.
-  pub record Appended (page_then : Page) (held : Kept) (stamped : Type 0) : Type 0 where
+  -- The update was appended. The page was accessed, is at such a stamp, and is made by this message only; the other pages stay.
+  pub record Appended (page_then : Page) (held : PageContent) (stamped : Type 0) : Type 0 where
     pub is : IsUpdate (message_of update) update
     pub went : Went g old new (Change pid (message_of update) ∷ [])
     pub fault : new.fault ≡ false
@@ -37,11 +37,11 @@ module _ {L : Type 0} (g : Ghosts L) (pid : ℕ) (update : Update) (old new : St
     pub accessed : WasAccessed accesses pid (access_size page_then) then
 
   -- at its next stamp
-  abbrev pub MakesAppend : Page → Page → Kept → Type 0
+  abbrev pub MakesAppend : Page → Page → PageContent → Type 0
   MakesAppend page page_then held = Appended page_then held (IsRaised page.stamp page_then.stamp)
 
-  -- It was refused for such a reason, which leaves what the caller keeps. At most the page was accessed, and only a refusal of the
-  -- log's may have left it so; only a write fault may have left the update in part.
+  -- The append failed for such a reason, and what the caller keeps stays. At most the page was accessed, and only an error of the log may
+  -- have left it so; only a write error may have left a part of the update.
   pub record RefusesAppend (why : Refusal → Type 0) (stays : Type 0) (refusal : Refusal) : Type 0 where
     pub is : IsUpdate (message_of update) update
     pub went : let told : Result (Unit {0}) Refusal = Err refusal in Went g old new (begun_by told (Change pid (message_of update) ∷ []))
@@ -53,15 +53,15 @@ module _ {L : Type 0} (g : Ghosts L) (pid : ℕ) (update : Update) (old new : St
     pub touched : IsTouched accesses pid then
     pub unasked : g.tells → IsOfLog refusal ⊎ (then ≡ accesses)
 
--- a content was put on a page in place of what it held, or that was refused and the page stays
-module _ {L : Type 0} (g : Ghosts L) (pid : ℕ) (kept : Kept) (old new : StickyLog L) (accesses then : Accesses) (page page_then : Page) where
+-- the content of a page was replaced, or that failed and the page stays
+module _ {L : Type 0} (g : Ghosts L) (pid : ℕ) (kept : PageContent) (old new : StickyLog L) (accesses then : Accesses) (page page_then : Page) where
   abbrev pub Puts : Result (Unit {0}) Refusal → Type 0
   Puts (Ok done) = MakesAppend g pid (Put (content_of kept)) old new accesses then page page_then kept
   Puts (Err refusal) = RefusesAppend g pid (Put (content_of kept)) old new accesses then (RefusesSwap page.stamp) (page_then ≡ page) refusal
 
--- a node was put on a new page, or that was refused and the pages stay
+-- a node was put on a new page, or that failed and the pages stay
 module _ {L : Type 0} (g : Ghosts L) (node : WholeNode) (old new : StickyLog L) (accesses then : Accesses) (pages pages_then : List Page) where
-  -- The node was appended. The new page was accessed, and is kept behind the others, which stay.
+  -- The node was appended. The new page was accessed, and was added after the others, which stay.
   pub record MakesNewPage : Type 0 where
     pub is : IsUpdate (message_of (Put (Node node))) (Put (Node node))
     pub went : Went g old new (Change (length pages) (message_of (Put (Node node))) ∷ [])

@@ -2,10 +2,10 @@
 use Rattle.std.specs.Prelude.{◌≡◌, ℕ, List, Some, slice_get}
 use Rattle.sled_pagecache.specs.Limits.{counter_pid}
 use Rattle.sled_pagecache.specs.State.{Token, token}
-use Rattle.sled_pagecache.specs.declared.pagecache.table.page.Kept.TheVariants.{Counter}
-use Rattle.sled_pagecache.specs.declared.pagecache.table.page.Page.{Page}
+use Rattle.sled_pagecache.specs.declared.pagecache.table.page_entry.PageContent.TheVariants.{Counter}
+use Rattle.sled_pagecache.specs.declared.pagecache.table.page_entry.Page.{Page}
 
--- the counter is kept on its page
+-- the counter is on its page
 abbrev pub KeepsCounter : List Page → Type 0
 KeepsCounter pages = (page : Page) × (n : ℕ) × (slice_get pages counter_pid ≡ Some page) × (page.kept ≡ Counter n)
 

@@ -1,5 +1,5 @@
--- What a link makes of a page, which is read where it doesn't lie in memory.
-use Rattle.std.specs.Prelude.{◌≡◌, ◌≢◌, ◌⊎◌, ◌-◌, ◌^◌, ◌≤◌, ℕ, Bool, true, false, List, [], ◌∷◌, length, slice_set, Some, Result, Ok, Err, ⊤}
+-- What a link makes of a page, which is read first if it isn't in memory.
+use Rattle.std.specs.Prelude.{◌≡◌, ◌≢◌, ◌⊎◌, ◌-◌, ◌^◌, ◌≤◌, ℕ, Bool, nat_lt, true, false, List, [], ◌∷◌, length, slice_set, Some, Result, Ok, Err, ⊤}
 use Rattle.std.specs.List.{AllByRecursion}
 use Rattle.sled_base.specs.declared.types.Bug.TheVariants.{LinkRefused}
 use Rattle.sled_base.specs.declared.types.Device.TheVariants.{Write}
@@ -19,6 +19,7 @@ use Rattle.sled_node.specs.Node.{WholeNode}
 use Rattle.sled_node.specs.declared.node.link.Link.{Link as NodeLink}
 use Rattle.sled_pagecache.specs.Inside.PageEntry.{WasAccessed, IsTouched, IsKept, is_resident, access_size}
 use Rattle.sled_pagecache.specs.Cache.{chain_at}
+use Rattle.sled_pagecache.specs.Limits.{most_messages}
 use Rattle.sled_pagecache.specs.Memory.{count_after}
 use Rattle.sled_pagecache.specs.Inside.StickyLog.{Went, IsCaused, IsOfLog, begun_by}
 use Rattle.sled_pagecache.specs.Table.{is_free}
@@ -29,17 +30,27 @@ use Rattle.sled_pagecache.specs.Answers.{linked_length}
 use Rattle.sled_pagecache.specs.Inside.Invariant.{IsFreeOrNode}
 use Rattle.sled_pagecache.specs.declared.pagecache.memory.accesses.Accesses.{Accesses}
 use Rattle.sled_pagecache.specs.declared.pagecache.write.sticky_log.StickyLog.{StickyLog}
-use Rattle.sled_pagecache.specs.declared.pagecache.table.page.Kept.TheVariants as kept
-use Rattle.sled_pagecache.specs.declared.pagecache.table.page.Page.{Page}
+use Rattle.sled_pagecache.specs.declared.pagecache.table.page_entry.PageContent.{PageContent}
+use Rattle.sled_pagecache.specs.declared.pagecache.table.page_entry.PageContent.TheVariants as page_content
+use Rattle.sled_pagecache.specs.declared.pagecache.table.page_entry.Page.{Page}
 
--- a link was applied to the node of a page that lies in memory, or that was refused
+-- the content is a node that accepts the link
+abbrev pub AcceptsAt : PageContent → NodeLink → Type 0
+AcceptsAt (page_content.Node node) link = Accepts node link
+AcceptsAt page_content.Free link = ⊥
+AcceptsAt page_content.OnLog link = ⊥
+AcceptsAt (page_content.Counter n) link = ⊥
+AcceptsAt (page_content.Roots roots) link = ⊥
+
+-- a link was applied to the node of a page in memory, or that failed
 module _ {L : Type 0} (g : Ghosts L) (old : StickyLog L) (pid : ℕ) (page : Page) (link : NodeLink) (new : StickyLog L) (accesses then : Accesses) (page_then : Page) where
-  -- what is written of it
+  -- what is written for it
   abbrev pub written_update : Update
   written_update = update_of (length page.infos.items) link page.kept
 
-  -- The node took the link, which was written, or the node was. The page was accessed.
-  pub record AppliesLink : Type 0 where
+  -- The link was applied to the node, and then the link or the node was written. The page was accessed.
+  pub record AppliesLink (joins : Bool) : Type 0 where
+    pub joined : joins ≡ nat_lt (length page.infos.items) most_messages
     pub is : IsUpdate (message_of written_update) written_update
     pub went : Went g old new (Change pid (message_of written_update) ∷ [])
     pub fault : new.fault ≡ false
@@ -52,8 +63,8 @@ module _ {L : Type 0} (g : Ghosts L) (old : StickyLog L) (pid : ℕ) (page : Pag
     pub len : length page_then.infos.items ≡ linked_length (length page.infos.items)
     pub accessed : WasAccessed accesses pid (access_size page_then) then
 
-  -- It was refused. The page stays but that its node may be lost; at most it was accessed, and only a refusal of the log's may have
-  -- left it so.
+  -- The link failed. The page stays, except that its node may have left memory. At most the page was accessed, and only an error of the log
+  -- may have left it so.
   pub record RefusesToApply (refusal : Refusal) : Type 0 where
     pub is : refusal ≡ Io Write → IsUpdate (message_of written_update) written_update
     pub went : let told : Result (Unit {0}) Refusal = Err refusal in Went g old new (begun_by told (Change pid (message_of written_update) ∷ []))
@@ -67,14 +78,15 @@ module _ {L : Type 0} (g : Ghosts L) (old : StickyLog L) (pid : ℕ) (page : Pag
     pub free : is_free page_then.kept ≡ is_free page.kept
     pub own : IsFreeOrNode page.kept → IsFreeOrNode page_then.kept
     pub touched : IsTouched accesses pid then
-    pub lost : (page_then.kept ≡ page.kept) ⊎ (page_then.kept ≡ kept.Away)
+    pub lost : (page_then.kept ≡ page.kept) ⊎ (page_then.kept ≡ page_content.OnLog)
     pub unasked : g.tells → IsOfLog refusal ⊎ ((page_then.kept ≡ page.kept) × (then ≡ accesses))
 
-  abbrev pub LinksPage : Result (Unit {0}) Refusal → Type 0
-  LinksPage (Ok done) = AppliesLink
+  -- the result is whether the link joined the messages of its page
+  abbrev pub LinksPage : Result Bool Refusal → Type 0
+  LinksPage (Ok joins) = AppliesLink joins
   LinksPage (Err refusal) = RefusesToApply refusal
 
--- why a link was refused of which nothing was appended to the log
+-- why a link failed of which nothing was appended to the log
 abbrev pub RefusesUnappended : Chain → ℕ → NodeLink → Refusal → Type 0
 RefusesUnappended chain stamp link OutOfMemory = ⊤
 RefusesUnappended chain stamp link (Io device) = ⊤
@@ -85,12 +97,12 @@ RefusesUnappended chain stamp link (Unsupported LogFull) = (node : WholeNode) ×
 -- there is no other reason
 RefusesUnappended chain stamp link refusal = ⊥
 
--- what is appended to the log where this node of a page takes the link
+-- what is appended to the log if this node of a page takes the link
 abbrev pub update_by : Page → NodeLink → WholeNode → Update
 update_by page link node = link_update (length page.infos.items) link (applied link node)
 
 module _ {L : Type 0} (g : Ghosts L) (old : StickyLog L) (pid : ℕ) (page : Page) (link : NodeLink) where
-  -- The update was appended to the log, at most in part: the node accepts the link, and the stamp may rise.
+  -- The update was appended to the log, at most in part: the node accepts the link, and the stamp may increase.
   pub record AppendsLink (new : StickyLog L) : Type 0 where
     pub node : WholeNode
     pub made : g.tells → Makes (messages_of (chain_at (g.state old.log) pid)) (content.Node node)
@@ -103,7 +115,7 @@ module _ {L : Type 0} (g : Ghosts L) (old : StickyLog L) (pid : ℕ) (page : Pag
   pub record TakesLink (new : StickyLog L) (page_then : Page) : Type 0 where
     pub tells : AppendsLink new
     pub raised : IsRaised page.stamp page_then.stamp
-    pub holds : page_then.kept ≡ kept.Node (applied link tells.node)
+    pub holds : page_then.kept ≡ page_content.Node (applied link tells.node)
     pub kept : g.tells → IsKept (chain_at (g.state new.log) pid) page_then
     pub len : length page_then.infos.items ≡ linked_length (length page.infos.items)
     pub others : g.tells → now effect_of_entry (g.state new.log) ≡ slice_set (now effect_of_entry (g.state old.log)) pid (chain_at (g.state new.log) pid)
@@ -128,16 +140,17 @@ pub record WasBegun {L : Type 0} (g : Ghosts L) (old new : StickyLog L) : Type 0
   pub went : Went g old new came
 
 module _ {L : Type 0} (g : Ghosts L) (old : StickyLog L) (pid : ℕ) (page : Page) (link : NodeLink) (new : StickyLog L) (accesses then : Accesses) (page_then : Page) where
-  -- A link was made: the page took it and was accessed. It was read where its node didn't lie in memory.
-  pub record MakesLink : Type 0 where
+  -- The link succeeded: the page took it and was accessed. The page was read if its node wasn't in memory.
+  pub record MakesLink (joins : Bool) : Type 0 where
+    pub joined : joins ≡ nat_lt (length page.infos.items) most_messages
     pub taken : TakesLink g old pid page link new page_then
     pub fault : new.fault ≡ false
     pub unread : is_resident page.kept ≡ true → (g.counts new.log).reads ≡ (g.counts old.log).reads
     pub reads : is_resident page.kept ≡ false → (g.counts new.log).reads ≡ count_after (length page.infos.items) (g.counts old.log).reads
     pub accessed : WasAccessed accesses pid (access_size page_then) then
 
-  -- It was refused. The page stays but that its node may be lost, and what it has read isn't kept; at most it was accessed, and
-  -- only a refusal of the log's may have left it so.
+  -- The link failed. The page stays, except that its node may have left memory, and what was read isn't kept. At most the page was
+  -- accessed, and only an error of the log may have left it so.
   pub record RefusesLinkOf (refusal : Refusal) : Type 0 where
     pub begun : WasBegun g old new
     pub refused : g.tells → RefusesAppended g old pid page link new refusal
@@ -153,9 +166,9 @@ module _ {L : Type 0} (g : Ghosts L) (old : StickyLog L) (pid : ℕ) (page : Pag
     pub kept_out : is_resident page.kept ≡ false → is_resident page_then.kept ≡ false
     pub at_most : (times : ℕ) × (times ≤ length page.infos.items) × ((g.counts new.log).reads ≡ count_after times (g.counts old.log).reads)
     pub touched : IsTouched accesses pid then
-    pub lost : (page_then.kept ≡ page.kept) ⊎ (page_then.kept ≡ kept.Away)
+    pub lost : (page_then.kept ≡ page.kept) ⊎ (page_then.kept ≡ page_content.OnLog)
     pub unasked : g.tells → IsOfLog refusal ⊎ ((page_then.kept ≡ page.kept) × (then ≡ accesses))
 
-  abbrev pub PutsLink : Result (Unit {0}) Refusal → Type 0
-  PutsLink (Ok done) = MakesLink
+  abbrev pub PutsLink : Result Bool Refusal → Type 0
+  PutsLink (Ok joins) = MakesLink joins
   PutsLink (Err refusal) = RefusesLinkOf refusal

@@ -1,4 +1,4 @@
--- What calls of a log, one after another up to the first that is refused, make of it.
+-- What calls of a log do, one after another up to the first that fails.
 use Rattle.std.specs.Prelude.{◌≡◌, ℕ, Bool, true, false, List, [], ◌∷◌, ◌++◌, length, Option, None, Some, Result, Ok, Err}
 use Rattle.sled_base.specs.declared.types.Device.TheVariants.{Read, Write}
 use Rattle.sled_base.specs.declared.types.Refusal.{Refusal}
@@ -11,19 +11,19 @@ use Rattle.sled_log.specs.declared.log.Log.{Ghosts}
 use Rattle.sled_pagecache.specs.Inside.StickyLog.{Went}
 use Rattle.sled_pagecache.specs.declared.pagecache.write.sticky_log.StickyLog.{StickyLog}
 
--- the refusal that was answered, if one was
+-- the refusal that was returned, if there was one
 abbrev pub refusal_in : {T : Type 0} → Result T Refusal → Option Refusal
 refusal_in (Ok answer) = None
 refusal_in (Err refusal) = Some refusal
 
--- whether it is a write fault
+-- whether it is a write error
 abbrev pub is_fault : Option Refusal → Bool
 is_fault None = false
 is_fault (Some (Io Write)) = true
 is_fault (Some other) = false
 
 module _ {L : Type 0} (g : Ghosts L) where
-  -- the events came
+  -- the events were added
   abbrev pub Comes : StickyLog L → StickyLog L → List (Event Message) → Type 0
   Comes = Went g
 
@@ -35,7 +35,8 @@ module _ {L : Type 0} (g : Ghosts L) where
   abbrev pub TakesNoRoom : L → L → Type 0
   TakesNoRoom old new = (n : ℕ) → g.is_full new n → g.is_full old n
 
-  -- Once some events had come, which left no room for the rest, nothing more came. Where none had come, the log had no room before.
+  -- After some events were added, there was no room for the rest, and nothing more was added. If none were added, the log had no room
+  -- before.
   pub record WasFull (old new : StickyLog L) (came rest : List (Event Message)) : Type 0 where
     pub at : StickyLog L
     pub went : Comes old at came
@@ -44,7 +45,7 @@ module _ {L : Type 0} (g : Ghosts L) where
     pub given : came ≡ [] → LacksRoom old.log rest
     pub behind : Comes at new []
 
-  -- A refusal, which has its cause, left the rest of the events out.
+  -- A refusal, which has its cause, ended the calls, and the rest of the events weren't added.
   pub record IsCutShort (old new : StickyLog L) (events : List (Event Message)) (refusal : Refusal) : Type 0 where
     pub came : List (Event Message)
     pub rest : List (Event Message)
@@ -58,7 +59,7 @@ module _ {L : Type 0} (g : Ghosts L) where
   Reaches old new events None = Comes old new events
   Reaches old new events (Some refusal) = IsCutShort old new events refusal
 
-  -- The events came in order, up to the refusal, if there is one. Calls of no event take up no room.
+  -- The events were added in order, up to the refusal, if there is one. Calls of no event take no room.
   pub record Proceeds (old new : StickyLog L) (events : List (Event Message)) (refusal : Option Refusal) : Type 0 where
     pub reaches : Reaches old new events refusal
     pub fault : new.fault ≡ is_fault refusal

@@ -1,4 +1,4 @@
--- Which calls were made of a cache, by what each says of itself.
+-- Which calls were made of a cache, by the contract of each.
 use Rattle.std.proofs.Common.{◌≡◌, ◌+◌, ℕ, [], true, false, Result, Ok, Err, inl, inr}
 use Rattle.std.specs.Prelude.{IfOk, OnOk}
 use Rattle.sled_base.specs.declared.types.Error.{Error}

@@ -1,4 +1,4 @@
--- How the cache keeps a page, beside the chain that the log has of it.
+-- How the cache stores a page, and how that corresponds to the page's chain in the log.
 use Rattle.std.specs.Prelude.{◌≡◌, ◌⊎◌, ◌^◌, ℕ, min, IsSomeAnd, ◌+◌, Bool, true, false, List, [], ◌∷◌, map, Option, Some, None, if◌then◌else◌}
 use Rattle.sled_base.specs.Lru.{IsAccessed, IsSound, rounded}
 use Rattle.sled_pagecache.specs.declared.pagecache.memory.accesses.Accesses.{Accesses}
@@ -8,15 +8,14 @@ use Rattle.sled_log.specs.Contents as content
 use Rattle.sled_log.specs.Messages.{Chain, messages_of, effect_of_entry}
 use Rattle.sled_log.specs.Pages.{said_of, freed_of}
 use Rattle.sled_log.specs.Reading.{Makes}
-use Rattle.sled_log.specs.Limits.{head_size}
 use Rattle.sled_pagecache.specs.Infos.{place_of, place_of_freeing}
-use Rattle.sled_pagecache.specs.declared.pagecache.table.page.CacheInfo.{CacheInfo}
-use Rattle.sled_pagecache.specs.declared.pagecache.table.page.Kept.{Kept}
-use Rattle.sled_pagecache.specs.declared.pagecache.table.page.Kept.TheVariants.{Free, Away, Counter, Roots, Node}
-use Rattle.sled_pagecache.specs.declared.pagecache.table.page.Page.{Page}
+use Rattle.sled_pagecache.specs.declared.pagecache.table.page_entry.CacheInfo.{CacheInfo}
+use Rattle.sled_pagecache.specs.declared.pagecache.table.page_entry.PageContent.{PageContent}
+use Rattle.sled_pagecache.specs.declared.pagecache.table.page_entry.PageContent.TheVariants.{Free, OnLog, Counter, Roots, Node}
+use Rattle.sled_pagecache.specs.declared.pagecache.table.page_entry.Page.{Page}
 use Rattle.sled_pagecache.specs.Table.{is_free}
 
--- no page is accessed with more
+-- the greatest size that a page is accessed with
 abbrev pub capped_size : ℕ → ℕ
 capped_size size = min size (2 ^ 63)
 
@@ -29,57 +28,53 @@ pub record WasAccessed (old : Accesses) (pid size : ℕ) (new : Accesses) : Type
 abbrev pub IsTouched : Accesses → ℕ → Accesses → Type 0
 IsTouched old pid new = (new ≡ old) ⊎ ((size : ℕ) × WasAccessed old pid size new)
 
--- What lies in memory is what the chain makes. A page that the chain leaves free is kept so, and no other one.
-abbrev pub HoldsChain : Chain → Kept → Type 0
+-- What is in memory is what the chain makes. A page is stored as free exactly if the chain leaves it free.
+abbrev pub HoldsChain : Chain → PageContent → Type 0
 HoldsChain chain Free = is_empty effect_of_entry chain ≡ true
-HoldsChain chain Away = is_empty effect_of_entry chain ≡ false
+HoldsChain chain OnLog = is_empty effect_of_entry chain ≡ false
 HoldsChain chain (Counter n) = Makes (messages_of chain) (content.Counter n)
 HoldsChain chain (Roots roots) = Makes (messages_of chain) (content.Roots roots)
 HoldsChain chain (Node node) = Makes (messages_of chain) (content.Node node)
 
--- whether the content lies in memory
-abbrev pub is_resident : Kept → Bool
+-- whether the content is in memory
+abbrev pub is_resident : PageContent → Bool
 is_resident Free = true
-is_resident Away = false
+is_resident OnLog = false
 is_resident (Counter n) = true
 is_resident (Roots roots) = true
 is_resident (Node node) = true
 
--- how much of the log messages take together
+-- how many bytes of the log messages take together
 abbrev pub size_in : List CacheInfo → ℕ
 size_in infos = sum_by (λ info. info.log_size) infos
 
--- how much the messages of a page take, as it is accessed with
+-- how much the messages of a page take: the size that the page is accessed with
 abbrev pub access_size : Page → ℕ
 access_size page = capped_size (size_in page.infos.items)
 
--- the same, where what is kept is a node
-abbrev pub size_if : ℕ → Kept → Option ℕ
+-- the same, if the page holds a node
+abbrev pub size_if : ℕ → PageContent → Option ℕ
 size_if size (Node node) = Some size
 size_if size Free = None
-size_if size Away = None
+size_if size OnLog = None
 size_if size (Counter n) = None
 size_if size (Roots roots) = None
 
 abbrev pub node_access_size : Page → Option ℕ
 node_access_size page = size_if (access_size page) page.kept
 
--- how much a message takes, whose payload is so long, and with it those that it joins
-abbrev pub joined_size : Bool → List CacheInfo → ℕ → ℕ
-joined_size joins infos payload = (if joins then size_in infos else 0) + head_size + payload
-
--- The page is kept as its chain says, with the places of its messages. How much the message of a free page takes up isn't known.
+-- The page is as its chain makes it, with the places of its messages. How much the message of a free page takes isn't known.
 pub record IsKept (chain : Chain) (page : Page) : Type 0 where
   pub places : is_free page.kept ≡ false → map said_of chain ≡ map place_of page.infos.items
   pub at : map freed_of chain ≡ map place_of_freeing page.infos.items
   pub holds : HoldsChain chain page.kept
 
--- the ids of the free pages, the least first, of pages of which the first has this id
+-- the ids of the free pages, the least first, among these pages, of which the first has this id
 abbrev pub free_ids : ℕ → List Page → List ℕ
 free_ids pid [] = []
 free_ids pid (page ∷ pages) = if is_free page.kept then pid ∷ free_ids (pid + 1) pages else free_ids (pid + 1) pages
 
--- the two are of one stamp, one chain and one content
+-- the two have the same stamp, the same chain and the same content
 pub record IsSame (page other : Page) : Type 0 where
   pub stamp : other.stamp ≡ page.stamp
   pub infos : other.infos.items ≡ page.infos.items

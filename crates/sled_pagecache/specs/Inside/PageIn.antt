@@ -1,4 +1,4 @@
--- What reading a page from the log answers, and what bringing it into memory makes of a cache.
+-- What reading a page from the log returns, and what bringing it into memory does to a cache.
 use Rattle.std.specs.Prelude.{◌≡◌, ◌≤◌, ℕ, [], List, ◌∷◌, ◌⊎◌, false, Some, ⊤, true, length, Option, None, Result, Ok, Err, OnOk, OnErr, IfErr, slice_get}
 use Rattle.sled_base.specs.declared.types.DiskPtr.{DiskPtr}
 use Rattle.sled_log.specs.Messages.{Entry, Chain, effect_of_entry, Message, messages_of, message}
@@ -25,17 +25,17 @@ use Rattle.sled_pagecache.specs.Table.{is_free}
 use Rattle.sled_pagecache.specs.Inside.Invariant.{IsFreeOrNode}
 use Rattle.sled_pagecache.specs.Inside.PageEntry.{IsKept, is_resident}
 use Rattle.sled_pagecache.specs.Inside.StickyLog.{IsCaused, Went}
-use Rattle.sled_pagecache.specs.declared.pagecache.table.page.Page.{Page}
+use Rattle.sled_pagecache.specs.declared.pagecache.table.page_entry.Page.{Page}
 use Rattle.sled_pagecache.specs.Step.{is_reserved}
 use Rattle.sled_pagecache.specs.State.{token}
 use Rattle.sled_pagecache.specs.declared.pagecache.write.sticky_log.StickyLog.{StickyLog}
 use Rattle.sled_pagecache.specs.declared.pagecache.handles.view.NodeView.{NodeView}
 
--- what a reader of an entry found: its kind, or that of its blob, its payload, and where it is kept
+-- what a reader of an entry found: its kind, or that of its blob, its payload, and where it is stored
 abbrev pub IsFoundAs : Entry → Found → Type 0
 IsFoundAs entry found = IsReadAs entry found.kind found.payload.now × (found.pointer ≡ entry.place.pointer)
 
--- The chain is one message, which was found so.
+-- The chain is one message, and this is what was found of it.
 abbrev pub IsOnly : Chain → MessageKind → List ℕ → DiskPtr → Type 0
 IsOnly chain kind payload pointer = (entry : Entry) × (chain ≡ entry ∷ []) × IsReadAs entry kind payload × (pointer ≡ entry.place.pointer)
 
@@ -43,42 +43,41 @@ IsOnly chain kind payload pointer = (entry : Entry) × (chain ≡ entry ∷ []) 
 abbrev pub found_message : Found → Message
 found_message found = message found.kind found.payload.now
 
--- no value is encoded by the payload from its front to its end
+-- the whole payload encodes no value
 abbrev pub EncodesNothing : {V : Type 0} → (List ℕ → V → List ℕ → Type 0) → List ℕ → Type 0
 EncodesNothing {V} reads payload = (value : V) → reads payload value [] → ⊥
 
--- the message is a link which the node accepts, and with which it is the other
+-- the message is a link that the node before accepts, and that makes the node after
 abbrev pub Leads : WholeNode → Message → WholeNode → Type 0
 Leads before message after = (link : NodeLink) × IsUpdate message (Link link) × Accepts before link × (after ≡ applied link before)
 
--- why a message that is kept at the pointer was refused: an allocation failed, or it is amiss
+-- why a message that is stored at the pointer was refused: an allocation failed, or it is wrong
 abbrev pub RefusesMessage : DiskPtr → Type 0 → Refusal → Type 0
 RefusesMessage pointer amiss OutOfMemory = ⊤
 RefusesMessage pointer amiss (Corruption (Some place)) = (place ≡ pointer) × amiss
 -- there is no other reason
 RefusesMessage pointer amiss refusal = ⊥
 
--- Why the first message of a page puts no node there: an allocation failed, it is amiss, or it frees the page.
+-- Why the first message of a page puts no node there: an allocation failed, the message is wrong, or it frees the page.
 abbrev pub RefusesFirst : Found → Refusal → Type 0
 RefusesFirst found (ReportableBug FreeInPull) = found.kind ≡ kinds.Free
 RefusesFirst found refusal = RefusesMessage found.pointer ((node : WholeNode) → ¬ IsUpdate (found_message found) (Put (Node node))) refusal
 
--- What messages make with one more, by what they made before it: a node, or nothing for a reason.
+-- What messages make with one more, given what they made before it: a node, or nothing for a reason.
 abbrev pub Follows : Result WholeNode Refusal → Found → Result WholeNode Refusal → Type 0
 Follows (Ok before) found (Ok after) = Leads before (found_message found) after
 Follows (Ok before) found (Err refusal) = RefusesMessage found.pointer ((after : WholeNode) → ¬ Leads before (found_message found) after) refusal
 Follows (Err refusal) found made = made ≡ Err refusal
 
--- An allocation failed, the device failed, or a message doesn't belong there, and the first such one is reported.
+-- An allocation failed, the device failed, or a message is wrong at its place, and the first such one is reported.
 abbrev pub RefusesPull : Chain → Refusal → Type 0
 RefusesPull chain OutOfMemory = ⊤
 RefusesPull chain (Io device) = ⊤
 RefusesPull chain (Corruption (Some pointer)) = IsWrongAt chain pointer
--- there is no other reason, since a page that is free lies in memory
+-- there is no other reason, since a free page is in memory
 RefusesPull chain refusal = ⊥
 
--- A page was read where it didn't lie in memory, by one read for each of its messages, or that was refused and the page stays. Nothing
--- was written.
+-- A page that wasn't in memory was read, by one read for each of its messages, or that failed and the page stays. Nothing was written.
 pub record PullsPage {L : Type 0} (g : Ghosts L) (old : StickyLog L) (pid : ℕ) (page : Page) (new : StickyLog L) (page_then : Page) (result : Result (Unit {0}) Refusal) : Type 0 where
   pub went : Went g old new []
   pub cause : IsCaused g old new ⊥ result
@@ -97,17 +96,17 @@ pub record PullsPage {L : Type 0} (g : Ghosts L) (old : StickyLog L) (pid : ℕ)
   pub stays : is_resident page.kept ≡ true → page_then.kept ≡ page.kept
   pub err : OnErr result (page_then.kept ≡ page.kept)
 
--- the log of a cache, and the write fault that is kept of it
+-- the log of a cache, with its sticky write error
 abbrev pub sticky_log_of : {L : Type 0} → Cache L → StickyLog L
 sticky_log_of cache = record { log = cache.log; fault = cache.fault; batch = cache.batch }
 
--- Why a page isn't read: it is the cache's own, or it isn't free, and its log doesn't give its node.
+-- Why a page isn't read: it is the cache's own, or it isn't free and its node can't be read from the log.
 abbrev pub RefusesReading : Chain → ℕ → Refusal → Type 0
 RefusesReading chain pid refusal =
     ((is_reserved pid ≡ true) × (refusal ≡ Unsupported ReservedId))
     ⊎ ((is_reserved pid ≡ false) × (is_empty effect_of_entry chain ≡ false) × RefusesPull chain refusal)
 
--- The page was read where it didn't lie in memory, and is free then or makes a node.
+-- The page was read if it wasn't in memory. Then it is free or holds a node.
 pub record BringsIn {L : Type 0} (g : Ghosts L) (old : Cache L) (pid : ℕ) (result : Result (Unit {0}) Refusal) (new : Cache L) : Type 0 where
   pub left : LeavesPages g old new
   pub cause : IsCaused g (sticky_log_of old) (sticky_log_of new) ⊥ result
@@ -115,8 +114,8 @@ pub record BringsIn {L : Type 0} (g : Ghosts L) (old : Cache L) (pid : ℕ) (res
   pub sound : g.tells → OnOk result (¬ IsDamaged (chain_at (g.state old.log) pid))
   pub refused : g.tells → IfErr result (RefusesReading (chain_at (g.state old.log) pid) pid)
 
--- The node is the one that the chain of the page makes. There is none where the page doesn't lie in memory, or the chain makes
--- none. With a write fault kept nothing is known of the chain.
+-- The node is the one that the chain of the page makes. There is none if the page isn't in memory, or if the chain makes none. After a
+-- write error nothing is known of the chain.
 abbrev pub IsNodeAt : {L : Type 0} → Ghosts L → Cache L → ℕ → Option NodeView → Type 0
 IsNodeAt g cache pid (Some view) =
     (view.token ≡ token pid view.token.stamp) × (slice_get cache.stamps pid ≡ Some view.token.stamp) × IsResident cache pid

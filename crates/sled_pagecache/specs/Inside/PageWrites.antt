@@ -1,5 +1,5 @@
 -- What a swap makes of a page that is at the stamp of the token.
-use Rattle.std.specs.Prelude.{◌≡◌, ◌≢◌, ◌⊎◌, ◌+◌, ◌-◌, ◌^◌, ◌<◌, ℕ, Bool, false, if◌then◌else◌, [], ◌∷◌, length, None, Result, IfOk, IfErr, OnOk, OnErr, ⊤}
+use Rattle.std.specs.Prelude.{◌≡◌, ◌≢◌, ◌⊎◌, ◌+◌, ◌-◌, ◌^◌, ◌<◌, ℕ, false, [], ◌∷◌, length, None, Result, IfOk, IfErr, OnOk, OnErr, ⊤}
 use Rattle.std.specs.List.{AllByRecursion}
 use Rattle.sled_base.specs.declared.types.Bug.TheVariants.{LinkRefused}
 use Rattle.sled_base.specs.declared.types.Refusal.{Refusal}
@@ -17,76 +17,71 @@ use Rattle.sled_log.specs.LogState.{now}
 use Rattle.sled_log.specs.declared.log.Log.{Ghosts}
 use Rattle.sled_node.specs.Links.{Accepts, applied}
 use Rattle.sled_node.specs.Meta as meta
-use Rattle.sled_node.specs.Node.{WholeNode}
 use Rattle.sled_node.specs.Meta.{IsRootMap}
 use Rattle.sled_node.specs.declared.node.link.Link.{Link as NodeLink}
 use Rattle.sled_pagecache.specs.Step.{link_update}
 use Rattle.sled_pagecache.specs.Infos.{place_of}
 use Rattle.sled_pagecache.specs.Inside.StickyLog.{Went, IsCaused, IsOfLog, begun_by}
-use Rattle.sled_pagecache.specs.declared.pagecache.table.page.CacheInfo.{CacheInfo}
+use Rattle.sled_pagecache.specs.declared.pagecache.table.page_entry.CacheInfo.{CacheInfo}
 use Rattle.sled_pagecache.specs.declared.pagecache.write.sticky_log.StickyLog.{StickyLog}
-use Rattle.sled_pagecache.specs.declared.pagecache.table.page.Kept.{Kept}
-use Rattle.sled_pagecache.specs.declared.pagecache.table.page.Kept.TheVariants.{Free, Away, Counter, Roots, Node}
+use Rattle.sled_pagecache.specs.declared.pagecache.table.page_entry.PageContent.{PageContent}
+use Rattle.sled_pagecache.specs.declared.pagecache.table.page_entry.PageContent.TheVariants.{Free, OnLog, Counter, Roots, Node}
 
--- what is put on a page that is kept so
-abbrev pub content_of : Kept → content.Content
+-- what is put on a page that holds this
+abbrev pub content_of : PageContent → content.Content
 content_of Free = content.Free
 content_of (Counter n) = content.Counter n
 content_of (Roots roots) = content.Roots roots
 content_of (Node node) = content.Node node
-content_of Away = content.Damaged
+content_of OnLog = content.Damaged
 
--- it can be written
-abbrev pub CanPut : Kept → Type 0
+-- this content can be written
+abbrev pub CanPut : PageContent → Type 0
 CanPut Free = ⊤
 CanPut (Counter n) = n < 2 ^ 64
 CanPut (Roots roots) = IsRootMap roots
 CanPut (Node node) = ⊤
-CanPut Away = ⊥
+CanPut OnLog = ⊥
 
--- the named roots that are kept
-abbrev pub roots_in : Kept → meta.Roots
+-- the named roots that the page holds
+abbrev pub roots_in : PageContent → meta.Roots
 roots_in (Roots roots) = roots
 roots_in other = []
 
--- the stamp could rise, and rose by one
+-- the stamp could increase, and increased by one
 abbrev pub IsRaised : ℕ → ℕ → Type 0
 IsRaised old new = (old < 2 ^ 64 - 1) × (new ≡ old + 1)
 
 -- the node accepts the link, which was applied
-abbrev pub IsLinked : Kept → NodeLink → Kept → Type 0
+abbrev pub IsLinked : PageContent → NodeLink → PageContent → Type 0
 IsLinked (Node node) link new = Accepts node link × (new ≡ Node (applied link node))
 IsLinked Free link new = ⊥
-IsLinked Away link new = ⊥
+IsLinked OnLog link new = ⊥
 IsLinked (Counter n) link new = ⊥
 IsLinked (Roots roots) link new = ⊥
 
--- what is written of a link that joins the other messages, or else of the node that it makes
-abbrev pub joined_update : Bool → NodeLink → WholeNode → Update
-joined_update joins link after = if joins then content.Link link else content.Put (content.Node after)
-
--- what a link writes to a page that is kept so, by so many messages
-abbrev pub update_of : ℕ → NodeLink → Kept → Update
+-- what a link writes to a page that holds this, and that this many messages make
+abbrev pub update_of : ℕ → NodeLink → PageContent → Update
 update_of messages link (Node node) = link_update messages link (applied link node)
 update_of messages link Free = content.Link link
-update_of messages link Away = content.Link link
+update_of messages link OnLog = content.Link link
 update_of messages link (Counter n) = content.Link link
 update_of messages link (Roots roots) = content.Link link
 
--- why a swap was refused that may be made: the stamp is the greatest, or the log refused it
+-- why a permitted swap failed: the stamp is the greatest, or the log refused it
 abbrev pub RefusesSwap : ℕ → Refusal → Type 0
 RefusesSwap stamp refusal = ((stamp ≡ 2 ^ 64 - 1) × (refusal ≡ Unsupported StampUsedUp)) ⊎ ((stamp ≢ 2 ^ 64 - 1) × IsOfLog refusal)
 
--- why a link was refused of a page that is kept so
-abbrev pub RefusesLink : ℕ → Kept → NodeLink → Refusal → Type 0
+-- why a link failed on a page that holds this
+abbrev pub RefusesLink : ℕ → PageContent → NodeLink → Refusal → Type 0
 RefusesLink stamp (Node node) link refusal = ((¬ Accepts node link) × (refusal ≡ ReportableBug LinkRefused)) ⊎ (Accepts node link × RefusesSwap stamp refusal)
 RefusesLink stamp Free link refusal = refusal ≡ Corruption None
-RefusesLink stamp Away link refusal = refusal ≡ Corruption None
+RefusesLink stamp OnLog link refusal = refusal ≡ Corruption None
 RefusesLink stamp (Counter n) link refusal = refusal ≡ Corruption None
 RefusesLink stamp (Roots roots) link refusal = refusal ≡ Corruption None
 
 module _ {L : Type 0} (g : Ghosts L) where
-  -- A message of a page was written to the log, and the answer is how it is kept, or why it was refused.
+  -- A message of a page was written to the log, and the result is where it is stored, or why that failed.
   pub record WritesMessage (old new : StickyLog L) (pid : ℕ) (m : Message) (stamp : ℕ) (result : Result CacheInfo Refusal) : Type 0 where
     pub went : Went g old new (begun_by result (Change pid m ∷ []))
     pub cause : IsCaused g old new (g.is_full old.log (length m.payload)) result
@@ -98,7 +93,7 @@ module _ {L : Type 0} (g : Ghosts L) where
     pub same : g.tells → OnErr result (new.fault ≡ false → now effect_of_entry (g.state new.log) ≡ now effect_of_entry (g.state old.log))
     pub sized : g.tells → OnOk result (AllByRecursion IsSized (now effect_of_entry (g.state new.log)))
 
-  -- the message is an update
+  -- the message is that of an update
   pub record Wrote (old new : StickyLog L) (pid : ℕ) (update : Update) (stamp : ℕ) (result : Result CacheInfo Refusal) : Type 0 where
     pub is : IsUpdate (message_of update) update
     pub writes : WritesMessage old new pid (message_of update) stamp result

@@ -15,27 +15,27 @@ use Rattle.sled_pagecache.specs.Inside.PageEntry.{WasAccessed, IsTouched, capped
 use Rattle.sled_pagecache.specs.Limits.{meta_pid}
 use Rattle.sled_pagecache.specs.Inside.PageWrites.{WritesMessage}
 use Rattle.sled_pagecache.specs.declared.pagecache.memory.accesses.Accesses.{Accesses}
-use Rattle.sled_pagecache.specs.declared.pagecache.table.page.CacheInfo.{CacheInfo}
-use Rattle.sled_pagecache.specs.declared.pagecache.table.page.Kept.TheVariants.{Roots}
-use Rattle.sled_pagecache.specs.declared.pagecache.table.page.Page.{Page}
+use Rattle.sled_pagecache.specs.declared.pagecache.table.page_entry.CacheInfo.{CacheInfo}
+use Rattle.sled_pagecache.specs.declared.pagecache.table.page_entry.PageContent.TheVariants.{Roots}
+use Rattle.sled_pagecache.specs.declared.pagecache.table.page_entry.Page.{Page}
 use Rattle.sled_pagecache.specs.declared.pagecache.write.sticky_log.StickyLog.{StickyLog}
 use Rattle.sled_pagecache.specs.declared.pagecache.handles.view.MetaView.{MetaView}
 
--- the page at id 0 keeps named roots
+-- the page at id 0 holds named roots
 pub record KeepsRoots (pages : List Page) : Type 0 where
   pub page : Page
   pub roots : meta.Roots
   pub at : slice_get pages meta_pid ≡ Some page
   pub kept : page.kept ≡ Roots roots
 
--- these are they, with its stamp
+-- these are the named roots of page 0, which has this stamp
 pub record AreKeptRoots (pages : List Page) (roots : meta.Roots) (at_stamp : ℕ) : Type 0 where
   pub page : Page
   pub at : slice_get pages meta_pid ≡ Some page
   pub kept : page.kept ≡ Roots roots
   pub stamp : page.stamp ≡ at_stamp
 
--- a write fault is kept, or these are the named roots, with the token of their page
+-- there was a write error, or these are the named roots, with the token of their page
 abbrev pub FindsRoots : Bool → List Page → Result MetaView Refusal → Type 0
 FindsRoots fault pages (Ok view) = (fault ≡ false) × (view.token.pid ≡ meta_pid) × AreKeptRoots pages view.meta.now view.token.stamp
 FindsRoots fault pages (Err refusal) = (fault ≡ true) × (refusal ≡ Io Write)

@@ -1,4 +1,4 @@
--- What follows for calls of the page cache in a row: no call and one call are rows, and a row behind another makes a longer one.
+-- What follows for calls of the page cache in a row: no call and one call are rows, and a row after another makes a longer one.
 use Rattle.std.proofs.Common.{◌≡◌, inl, inr, ⊎_elim, ℕ, Bool, true, false, List, [], ◌∷◌, ◌++◌, take, refl, sym, ◌∙◌, ap, subst, arith}
 use Rattle.std.specs.Prelude.{MatchBool, nat_lt, Ok, Err, Result}
 use Rattle.std.proofs.lemmas.Bool.{false≢true}
@@ -32,7 +32,7 @@ use Rattle.sled_pagecache.specs.declared.pagecache.handles.call.Call.{Call}
 use Rattle.sled_pagecache.specs.declared.pagecache.handles.call.Call.TheVariants as call
 use Rattle.sled_pagecache.specs.declared.pagecache.handles.call.Call.TheVariants.{Allocate, Get, Link, Replace, GetMeta, GetIdgen, GenerateId, Flush, SizeOnDisk, SpaceAmplification, TakeFuzzySnapshot, MetaPidForName, CasRoot, AttemptGc}
 
--- ---- changes that come behind others
+-- ---- changes that are added after others
 
 -- nothing was added, and nothing moved
 pub adds-none : (held : Logged) → Adds held [] held
@@ -45,13 +45,13 @@ adds-then held mid new first second a b = (AddsEvents-then contents_after conten
 left-behind : (held mid : Logged) (first second : List (Event Update)) (pages : List Messages) → Adds held first mid → IsLeft mid second pages → IsLeft held (first ++ second) pages
 left-behind held mid first second pages = CrashKeeps-behind contents_after contents_after-append held.stable mid.stable held.pending mid.pending first second (AreKept pages)
 
--- what it leaves where more come
+-- what it leaves if more are added
 left-more : (held : Logged) (first all : List (Event Update)) (pages : List Messages) → IsPrefix first all → IsLeft held first pages → IsLeft held all pages
 left-more held first all pages = CrashKeeps-more contents_after contents_after-append held.stable held.pending first all (AreKept pages)
 
 -- ---- crashes
 
--- what has come of nothing
+-- what was added of nothing
 pub none-came : {E : Type 0} (came : List (Event E)) → IsPrefix came [] → came ≡ []
 none-came [] b = refl
 none-came (event ∷ came) b = let e = b.1 in absurd cc
@@ -94,7 +94,7 @@ taken : (A B : Type 0) (test : Bool) → test ≡ true → MatchBool test A B �
 taken A B true is h = h
 taken A B false is h = absurd (false≢true is)
 
--- with a write fault kept nothing changes, but that a batch may be closed
+-- after a write error nothing changes, except that a batch may be closed
 abbrev pub IsStuck : State → Outcome → Type 0
 IsStuck s out = out ≡ no_change (record s { batch = out.state.batch })
 
@@ -105,7 +105,7 @@ closes-stuck : (mark : Event Update) (s : State) (answer : Result (Unit {0}) Err
 closes-stuck mark s answer out step kept = subst (IsStuck s) (sym (taken _ _ s.fault kept step.1).1) refl
 
 module _ {L : Type 0} (g : Ghosts L) where
-  -- a swap that was refused is followed by no move
+  -- a swap that failed is followed by no move
   abbrev Behind : {R : Type 0} → Cache L → Swapped R → Outcome → Outcome → Type 0
   Behind cache answer swap out = TidiesIfSwapped (due_in g cache.config) (HasNoRoomAgain g) (IsBehind g cache.log) answer swap out
 
@@ -118,7 +118,7 @@ module _ {L : Type 0} (g : Ghosts L) where
   none-joined cache s swap out answer true stuck is = same-stuck s out (is ∙ stuck.1)
   none-joined cache s swap out answer false stuck behind = none-behind cache s swap out answer stuck behind
 
-  -- with a write fault kept a call changes nothing, but that one may close the batch
+  -- after a write error a call changes nothing, except that it may close the batch
   pub step-stuck : (cache : Cache L) (s : State) (call : Call) (answer : Answer) (out : Outcome) → StepOver g cache s call answer out → s.fault ≡ true → IsStuck s out
   step-stuck cache s (Allocate node) (Allocated answer) out step kept = same-stuck s out (taken _ _ s.fault kept step).1
   step-stuck cache s (Get pid) (Got answer) out step kept = same-stuck s out (taken _ _ s.fault kept step).1
@@ -148,7 +148,7 @@ module _ {L : Type 0} (g : Ghosts L) where
     steps-stuck old new s t (made ∷ calls) (out ∷ outs) (mid, called, step, is, steps) kept =
         steps-stuck mid new out.state t calls outs steps (ap (λ (o : Outcome). o.state.fault) (step-stuck old s made.0 made.1 out step kept) ∙ kept)
 
-    -- steps behind others
+    -- steps after others
     steps-then : (old mid new : Cache L) (s u t : State) (calls others : List (Call × Answer)) (outs more : List Outcome)
         → AreSteps g Makes old s calls outs mid u → AreSteps g Makes mid u others more new t → AreSteps g Makes old s (calls ++ others) (outs ++ more) new t
     steps-then old mid new s u t [] others [] more none steps = subst (λ cache. AreSteps g Makes cache s others more new t) none.0 (subst (λ from. AreSteps g Makes mid from others more new t) none.1 steps)
@@ -157,7 +157,7 @@ module _ {L : Type 0} (g : Ghosts L) where
     steps-then old mid new s u t (made ∷ calls) others (out ∷ outs) more (next, called, step, is, first) steps =
         (next, called, step, is, steps-then next mid new out.state u t calls others outs more first steps)
 
-  -- what they write comes behind what the others write
+  -- what they write comes after what the others write
   changes-then : (outs more : List Outcome) → changes_of (outs ++ more) ≡ changes_of outs ++ changes_of more
   changes-then outs more = flat_map-append (λ (out : Outcome). out.changes) outs more
 
@@ -167,7 +167,7 @@ module _ {L : Type 0} (g : Ghosts L) where
     abbrev all : List (Event Update)
     all = changes_of row.outs ++ changes_of next.outs
 
-    -- no write fault is kept before calls that leave none
+    -- there was no write error before calls after which there is none
     clear_before : next.t.fault ≡ false → row.t.fault ≡ false
     clear_before free = by row.t.fault refl
       where
@@ -202,7 +202,7 @@ module _ {L : Type 0} (g : Ghosts L) where
       stuck = λ kept. next.stuck (steps-stuck (Steps g) old mid s row.t calls row.outs row.steps kept) ∙ row.stuck kept;
     }
 
-  -- what is done behind what was done, with no write fault between them, as one
+  -- what is done after what was done before, with no write error between them, as one
   module _ {First Second : State → Outcome → Type 0} (old mid new : Cache L) (held : Logged) (s : State) (first : IsDone g First old mid held s) (second : IsDone g Second mid new first.held_then first.out.state) where
     abbrev pub out_of_both : Outcome
     out_of_both = outcome second.out.state (first.out.changes ++ second.out.changes)
@@ -221,7 +221,7 @@ module _ {L : Type 0} (g : Ghosts L) where
       stuck = λ kept. absurd (false≢true (sym clear ∙ kept));
     }
 
-  -- what a crash leaves between two calls, as every log says
+  -- what a crash leaves between two calls, as every log promises
   abbrev pub OnlyNow : Type 0
   OnlyNow = (l : L) (pages : List Messages) → g.tells → (g.state l).usable ≡ true → g.left_since l (g.moment l) pages → log.IsLeft effect_of (log.unplaced_state (g.state l)) [] pages
 
@@ -260,7 +260,7 @@ module _ {L : Type 0} (g : Ghosts L) where
         };
   }
 
-  -- a call behind others, with the changes and the state that it leaves
+  -- a call after others, with the changes and the state that it leaves
   pub record IsLonger (old new : Cache L) (calls : List (Call × Answer)) (held : Logged) (s : State) (changes : List (Event Update)) (t : State) : Type 0 where
     pub row : IsRow g old calls new held s
     pub writes : changes_of row.outs ≡ changes
@@ -277,7 +277,7 @@ module _ {L : Type 0} (g : Ghosts L) where
         leaves = refl;
       }
 
-  -- calls behind others
+  -- calls after others
   pub row-then : (old mid new : Cache L) (calls others : List (Call × Answer)) → StepInRow g old calls mid → StepInRow g mid others new → StepInRow g old (calls ++ others) new
   row-then old mid new calls others row next = record {
     opening = record { config = next.opening.config ∙ row.opening.config; recovered = next.opening.recovered ∙ row.opening.recovered };
@@ -291,7 +291,7 @@ module _ {L : Type 0} (g : Ghosts L) where
   made-row old new [] only_now same = subst (StepInRow g old []) (sym same) (row-none old only_now)
   made-row old new (made ∷ calls) only_now (mid, first, others) = row-then old mid new (made ∷ []) calls (row-one old mid made.0 made.1 first.step) (made-row mid new calls only_now others)
 
-  -- calls that were made behind others
+  -- calls that were made after others
   pub made-then : (old mid new : Cache L) (calls others : List (Call × Answer)) → AreMade g old calls mid → AreMade g mid others new → AreMade g old (calls ++ others) new
   made-then old mid new [] others same made = subst (λ from. AreMade g from others new) same made
   made-then old mid new (call ∷ calls) others (next, first, rest) made = (next, first, made-then next mid new calls others rest made)

@@ -1,4 +1,4 @@
--- What isn't served stays: calls with nothing between them are a row of a cache that may be served.
+-- A cache that isn't served stays as it is: calls with nothing between them are a row of a cache that may be served.
 use Rattle.std.proofs.Common.{List, [], ◌∷◌, refl, sym, subst, arith}
 use Rattle.sled_log.specs.declared.log.Log.{Ghosts}
 use Rattle.sled_disk.specs.Served.{StaysALog}

@@ -1,4 +1,4 @@
--- What follows for the calls of a cache, one after another, of what they make of its log.
+-- What follows for several calls of a cache, one after another, from what each does to its log.
 use Rattle.std.proofs.Common.{◌≡◌, inl, inr, ⊎_elim, ◌<◌, ◌≤◌, ℕ, true, false, List, [], ◌++◌, Result, Ok, Err, refl, sym, ◌∙◌, ap, subst, arith}
 use Rattle.std.proofs.lemmas.List.{append-nil}
 use Rattle.sled_base.specs.declared.types.Refusal.{Refusal}
@@ -31,7 +31,7 @@ module _ {L : Type 0} (g : Ghosts L) where
     crash = λ told. CrashesSinceLeave-none g.moment g.left_since sticky_log.log (IsLeft effect_of (unplaced_state (g.state sticky_log.log)) []) (λ pages left. only pages told usable left);
   }
 
-  -- one call after another, where the first kept no write fault
+  -- one call after another, if the first met no write error
   pub Went-then : (old mid new : StickyLog L) (first second : List (Event Message))
       → Went g old mid first
       → mid.fault ≡ false
@@ -76,7 +76,7 @@ module _ {L : Type 0} (g : Ghosts L) where
     full = cause.full;
   }
 
-  -- the cause of a refusal is that of a call that hands it on
+  -- the cause of a refusal is that of a call that passes it on
   pub IsCaused-handed_on : {T U : Type 0} (old new : StickyLog L) (no_room : Type 0) (refusal : Refusal)
       → (let result : Result T Refusal = Err refusal in IsCaused g old new no_room result)
       → (let result : Result U Refusal = Err refusal in IsCaused g old new no_room result)

@@ -9,7 +9,7 @@ use Rattle.sled_pagecache.specs.Inside.Loading.{events_at_start}
 use Rattle.sled_pagecache.specs.Inside.LogCalls.{Proceeds}
 use Rattle.sled_pagecache.specs.declared.pagecache.write.sticky_log.StickyLog.{StickyLog}
 
--- Some messages, which leave no batch open: where the device tells its bytes, those of the system pages that are missing.
+-- Some messages, which leave no batch open. If the device tells its bytes, they are those of the missing system pages.
 pub record Starts {L : Type 0} (g : Ghosts L) (old new : StickyLog L) (refusal : Option Refusal) : Type 0 where
   pub events : List (Event Message)
   pub are : g.tells → events ≡ events_at_start (now effect_of_entry (g.state old.log))

@@ -1,10 +1,10 @@
-//! What the cache is given and hands out.
+//! What the cache takes and returns.
 //!
 //! - `call`: the calls and their answers
-//! - `view`: tokens, and nodes that are lent
+//! - `view`: tokens, and references to nodes and to the map of named roots
 //! - `config`: the settings
 //! - `shape`: what a page looks like, for debugging
-//! - `snapshot`: how far the log is durable, and where it keeps the pages
+//! - `snapshot`: how far the log is durable, and where it stores the pages
 
 pub(crate) mod call;
 pub(crate) mod config;

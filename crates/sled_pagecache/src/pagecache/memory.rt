@@ -1,13 +1,13 @@
-//! What lies in memory.
+//! What is in memory.
 //!
 //! - `accesses`: the accesses to pages, and what the list of recent use drops for them
-//! - `evict`: what leaves memory behind a call
-//! - `pull`, `chain`, `reading`: reading a page that doesn't lie in memory, its chain, and the node of its messages
-//! - `sizes`: how much the pages would take, of which nothing that is read is kept
+//! - `evict`: what leaves memory after a call
+//! - `pull`, `chain`, `reading`: reading a page that isn't in memory, its chain, and the node of its messages
+//! - `page_sizes`: how much the pages would take; nothing that is read for it is kept
 
 pub(crate) mod accesses;
 pub(crate) mod chain;
 pub(crate) mod evict;
+pub(crate) mod page_sizes;
 pub(crate) mod pull;
 pub(crate) mod reading;
-pub(crate) mod sizes;

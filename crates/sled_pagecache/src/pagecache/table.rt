@@ -1,15 +1,15 @@
-//! The pages as the cache keeps them.
+//! The pages as the cache stores them.
 //!
-//! - `page`: a page, and what it holds
-//! - `infos`: where the log keeps the messages of a page
-//! - `held`: a node that lies in memory
-//! - `held_roots`: the map of named roots in memory
+//! - `page_entry`: a page, and what it holds
+//! - `infos`: where the log stores the messages of a page
+//! - `boxed_node`: a node in memory
+//! - `boxed_roots`: the map of named roots in memory
 //! - `pagetable`: the table of pages by their ids
-//! - `free`: the ids of the free ones
+//! - `free_ids`: the ids of the free pages
 
-pub(crate) mod free;
-pub(crate) mod held;
-pub(crate) mod held_roots;
+pub(crate) mod boxed_node;
+pub(crate) mod boxed_roots;
+pub(crate) mod free_ids;
 pub(crate) mod infos;
-pub(crate) mod page;
+pub(crate) mod page_entry;
 pub(crate) mod pagetable;

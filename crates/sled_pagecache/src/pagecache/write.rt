@@ -1,19 +1,21 @@
-//! What changes pages and is written to the log.
+//! Changes of pages, and writing them to the log.
 //!
-//! - `judge`: what the token of a swap is worth
-//! - `swap`, `add`: the swaps of a page, and the making of one
-//! - `roots`, `ids`: the swap of a named root, and the counter of generated ids
-//! - `moves`: the writing of a page again, as it is
-//! - `rewriting`: the writing of all pages to another log
+//! - `token_check`: tests the token of a swap
+//! - `page_swap`, `new_page`: swapping a page, and adding one
+//! - `page_link`: applying a link, which joins the messages of its page, or whose node replaces them
+//! - `root_page`, `counter_page`: the swap of a named root, and the counter of generated ids
+//! - `page_move`: writing a page again as it is
+//! - `page_copies`: writing all pages to another log
 //! - `message`: writing the messages of a page to the log
-//! - `sticky_log`: the log of a cache, and the write error that is kept of it
+//! - `sticky_log`: the log of a cache, with its sticky write error
 
-pub(crate) mod add;
-pub(crate) mod ids;
-pub(crate) mod judge;
+pub(crate) mod counter_page;
 pub(crate) mod message;
-pub(crate) mod moves;
-pub(crate) mod rewriting;
-pub(crate) mod roots;
+pub(crate) mod new_page;
+pub(crate) mod page_copies;
+pub(crate) mod page_link;
+pub(crate) mod page_move;
+pub(crate) mod page_swap;
+pub(crate) mod root_page;
 pub(crate) mod sticky_log;
-pub(crate) mod swap;
+pub(crate) mod token_check;

@@ -4,7 +4,6 @@
 use super::moves::{APART, EACH, Moving, first_wrong_of, moved};
 use super::*;
 use sled_base::DiskPtr::Inline;
-use sled_pagecache_testing::saying::Said;
 use sled_pagecache_testing::saying::Said::{Freed, Of};
 use sled_pagecache_testing::steps::Change::Set;
 use sled_pagecache_testing::steps::Outcome::{At, Done, Gone, Id};

@@ -4,8 +4,6 @@
 ghost use Rattle.std.specs.Prelude.{◌≡◌, ℕ, [], ◌∷◌, List, Option, Some, None, Ok, IfSome, map};
 ghost use Rattle.sled_disk.specs.declared.disk.memory.MemDisk.{MemDisk};
 ghost use Rattle.sled_disk.specs.declared.log.DiskLog.{DiskLog};
-ghost use Rattle.sled_log.specs.LogState.{now};
-ghost use Rattle.sled_log.specs.Messages.{effect_of_entry};
 ghost use Rattle.sled_pagecache.specs.Opening.{MayBeOpened};
 ghost use Rattle.sled_pagecache.specs.Openings.{CrashedIn, CrashedRewriting, HandedOn, IsEmpty, IsRun, Opening};
 ghost use Rattle.sled_pagecache.specs.Prefixes.{ShowPrefixes, history_from};

@@ -1,6 +1,6 @@
 // Caches over a log whose device tells nothing of its bytes: it gives the pages and the messages that it was told to give.
 
-ghost use Rattle.std.specs.Prelude.{⊤, ◌≡◌, ℕ, [], pos, false, true, Some};
+ghost use Rattle.std.specs.Prelude.{⊤, ◌≡◌, [], pos, false, true, Some};
 ghost use Rattle.sled_log.specs.Inside.Marks.{marks};
 
 use super::*;

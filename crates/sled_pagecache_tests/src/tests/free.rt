@@ -11,7 +11,7 @@ use sled_pagecache_testing::steps::Sight::{Absent, Empty, Unwritten};
 use sled_pagecache_testing::steps::Step::{
     Adds, AddsFrom, Crashes, Flushes, Frees, Gets, Links, Prints,
 };
-use sled_pagecache_testing::steps::{Outcome, PAIR, Step, shows};
+use sled_pagecache_testing::steps::{Outcome, PAIR, shows};
 
 const SCRIPTS: &[Script] = &[
     (

@@ -1,4 +1,4 @@
-//! The arguments that several commands have.
+//! Arguments that several commands have.
 
 ghost use Rattle.std.specs.Prelude.{◌≡◌, ◌≢◌, ℕ, Option, Some, IfSome, IfNone};
 ghost use Rattle.std.specs.Option.{option_map};
@@ -10,7 +10,8 @@ ghost use Rattle.sled_script.specs.Commands.{IsRootNumber, root_word};
 use sled_lines::words::{first_word, number_of, two_words};
 use sled_pagecache::{PageId, PageView};
 
-/// The token whose words stand in front, and what follows the space behind them, if a space is there.
+/// Returns the token that the first two words encode, and what follows the space after them, if there is a space. Returns `None` if they encode no
+/// token.
 #[inline(always)]
 pub fn token_of(words: &[u8]) -> Option<(PageView, Option<&[u8]>)>
     ensures some { IfSome result (λ read. BeginsWithToken (Some words.now) read.0
@@ -24,7 +25,7 @@ pub fn token_of(words: &[u8]) -> Option<(PageView, Option<&[u8]>)>
     Some((old, rest))
 }
 
-/// Two root pages, each of which may be none.
+/// Returns two root pages, each of which may be none, which is a dash. Returns `None` if the words encode no root pages.
 pub fn two_roots(words: &[u8]) -> Option<(Option<PageId>, Option<PageId>)>
     ensures some { IfSome result (λ roots. EncodeRoots words.now roots.0 roots.1) }
     ensures none { IfNone result ((old new : Option ℕ) → ¬ EncodeRoots words.now old new) }

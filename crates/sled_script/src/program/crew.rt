@@ -1,4 +1,4 @@
-//! Threads that draw ids of one cache.
+//! Threads that generate ids from one cache.
 
 ghost use Rattle.std.specs.Prelude.{◌≡◌, ◌<◌, ◌≤◌, ◌+◌, ◌*◌, ◌^◌, IfOk, sum_by};
 ghost use Rattle.sled_shared.specs.Held.{count_of};
@@ -20,7 +20,7 @@ impl Gate for Open {
     fn after(&self, _worker: usize, _call: u64) {}
 }
 
-/// Draws so many ids in each of so many threads, over a new log in memory, and answers how many calls were entered.
+/// Generates `calls` ids in each of `workers` threads, over a new log in memory, and returns how many calls were recorded.
 pub fn draw_ids<K: Tally + Send + Sync + 'static, T: Threads + Wait + Copy + Send + 'static>(
     rt: T,
     alloc: Global,

@@ -1,4 +1,4 @@
-//! The script over the log that a disk holds.
+//! The script over the log of a disk.
 
 ghost use Rattle.std.specs.Prelude.{◌≡◌, false, IfOk, OnOk};
 ghost use Rattle.sled_script.specs.OverDisk.{IsOpenedOver, RunsOver, ServesOver, with_log};
@@ -11,9 +11,9 @@ use sled_pagecache::{Error, Log, LogError, PageCache};
 use std::alloc::Global;
 use std::io::{BufReader, Read, Write};
 
-/// Runs the script over the log that a disk holds. A disk that has no bytes is given a log of no messages.
+/// Runs the script over the log of a disk. An empty disk gets an empty log.
 ///
-/// Over a file of the system the disk is a `FileDisk<F>`, which tells its bytes if the file `F` keeps its word.
+/// Over a file of the system the disk is a `FileDisk<F>`, whose bytes are known to contracts if the file `F` keeps its promises.
 pub fn serve_on<D: Disk, R: Read, W: Write>(
     alloc: Global,
     disk: D,

@@ -1,4 +1,4 @@
-//! The examples of the README and the guide. Each file begins with one, word for word, and runs it.
+//! The examples of docs/GUIDE.md. Each file begins with one, word for word, and runs it.
 
 mod add_tree;
 mod compact_file;

@@ -1,4 +1,4 @@
-//! Entering a call: its room, which is taken before the cache is asked, and the entry.
+//! Entering a call: its room, which is allocated before the cache is called, and the entry.
 
 ghost use Rattle.std.specs.Prelude.{◌≡◌, ◌+◌, ◌-◌, ◌^◌, ◌<◌, ◌∷◌, [], ◌++◌, ◌||◌, ◌==◌, false, nat_le, vec_len, vec_capacity, OnOk, IfErr, IsSome, MatchBool};
 ghost use Rattle.sled_base.specs.declared.types.Error.TheVariants.{Unsupported, OutOfMemory};

@@ -1,7 +1,6 @@
 //! Maps by their names.
 
 ghost use Rattle.std.specs.Prelude.{◌≡◌, IfErr, IfOk};
-ghost use Rattle.sled_log.specs.Contents.{Content};
 ghost use Rattle.sled_node.specs.Meta as meta;
 ghost use Rattle.sled_tree.specs.Changed.{Reads};
 ghost use Rattle.sled_tree.specs.Dropping.{AreNamesOf, DropsMap, IsMapOf, IsRootOf, Unnames, names_of};
@@ -17,7 +16,7 @@ use sled_pagecache::sled_node::meta::Meta;
 use sled_pagecache::{Error, IVec, Log, PageCache, PageId, open_tree};
 use std::alloc::Global;
 
-/// The map of a name, which is made where there is none.
+/// Returns the map of a name, and makes an empty one if there is none.
 pub fn open<L: Log>(alloc: Global, cache: &mut PageCache<L>, name: &[u8]) -> Result<Tree, TreeError>
     ensures maps { Performs L.Log (OpensMap root_of name.now result) cache.old cache.new }
     ensures errors { IfErr result IsOfCache }
@@ -27,7 +26,7 @@ pub fn open<L: Log>(alloc: Global, cache: &mut PageCache<L>, name: &[u8]) -> Res
     Ok(Tree { root })
 }
 
-/// The map of a name, if there is one.
+/// Returns the map of a name, if there is one.
 pub fn get_tree<L: Log>(cache: &PageCache<L>, name: &[u8]) -> Result<Option<Tree>, TreeError>
     ensures map { Performs L.Log (Reads result (IsMapOf name.now)) cache.now cache.now }
     ensures errors { IfErr result IsOfCache }
@@ -38,7 +37,7 @@ pub fn get_tree<L: Log>(cache: &PageCache<L>, name: &[u8]) -> Result<Option<Tree
     }
 }
 
-/// The names of the maps, in their order.
+/// Returns the names of the maps, in ascending order.
 pub fn names<L: Log>(alloc: Global, cache: &PageCache<L>) -> Result<Vec<IVec>, TreeError>
     ensures names { Performs L.Log (Reads result AreNamesOf) cache.now cache.now }
     ensures errors { IfErr result IsOfCache }
@@ -46,7 +45,7 @@ pub fn names<L: Log>(alloc: Global, cache: &PageCache<L>) -> Result<Vec<IVec>, T
     Ok(listed(alloc, cache)?)
 }
 
-/// Takes away the map of a name with all that it has.
+/// Drops the map of a name with all of its pairs, and returns whether there was one.
 pub fn drop_tree<L: Log>(
     alloc: Global,
     cache: &mut PageCache<L>,

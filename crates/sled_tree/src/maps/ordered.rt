@@ -1,4 +1,4 @@
-//! The pairs of a map in the order of their keys.
+//! The pairs of a map in key order.
 
 ghost use Rattle.std.specs.Prelude.{◌≡◌, IfErr, length};
 ghost use Rattle.sled_tree.specs.Errors.{IsOfCache};
@@ -14,7 +14,7 @@ use sled_pagecache::{IVec, Log, PageCache};
 use std::alloc::Global;
 use std::ops::Bound;
 
-/// The pair with the least key.
+/// Returns the pair with the least key, if there is any.
 pub fn first<L: Log>(
     cache: &mut PageCache<L>,
     tree: Tree,
@@ -25,7 +25,7 @@ pub fn first<L: Log>(
     next_above(cache, tree, &Bound::Unbounded)
 }
 
-/// The pair with the greatest key.
+/// Returns the pair with the greatest key, if there is any.
 pub fn last<L: Log>(cache: &mut PageCache<L>, tree: Tree) -> Result<Option<(IVec, IVec)>, TreeError>
     ensures pair { ReadsMap L.Log tree (λ m answer. answer ≡ last_of m) result cache.old cache.new }
     ensures errors { IfErr result IsOfCache }
@@ -33,7 +33,7 @@ pub fn last<L: Log>(cache: &mut PageCache<L>, tree: Tree) -> Result<Option<(IVec
     next_below(cache, tree, &Bound::Unbounded)
 }
 
-/// The first pair behind the bound.
+/// Returns the first pair after the bound, if there is one.
 pub fn next_above<L: Log>(
     cache: &mut PageCache<L>,
     tree: Tree,
@@ -45,7 +45,7 @@ pub fn next_above<L: Log>(
     Ok(above::next_above(cache, tree.root, bound)?)
 }
 
-/// The last pair before the bound.
+/// Returns the last pair before the bound, if there is one.
 pub fn next_below<L: Log>(
     cache: &mut PageCache<L>,
     tree: Tree,
@@ -57,7 +57,7 @@ pub fn next_below<L: Log>(
     Ok(below::next_below(cache, tree.root, bound)?)
 }
 
-/// The first pairs within two bounds, those that one leaf has, and where the others begin.
+/// Returns the first pairs within two bounds, those that one leaf has, and the key from which the others begin.
 pub fn range<L: Log>(
     alloc: Global,
     cache: &mut PageCache<L>,
@@ -71,7 +71,7 @@ pub fn range<L: Log>(
     Ok(pairs_within(alloc, cache, tree.root, from, to)?)
 }
 
-/// How many pairs there are.
+/// Returns the number of pairs.
 pub fn len<L: Log>(cache: &mut PageCache<L>, tree: Tree) -> Result<u64, TreeError>
     ensures count { ReadsMap L.Log tree (λ m count. count ≡ length m) result cache.old cache.new }
     ensures errors { IfErr result IsOfCache }

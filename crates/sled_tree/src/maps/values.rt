@@ -1,4 +1,4 @@
-//! The values of keys: reading and changing one.
+//! Reading and changing the value of a key.
 
 ghost use Rattle.std.specs.Prelude.{◌≡◌, ◌⊎◌, [], IfErr, IsErrOf, unwrap_or};
 ghost use Rattle.std.specs.Option.{option_map};
@@ -19,7 +19,7 @@ use sled_pagecache::sled_node::node::MAX_BYTES;
 use sled_pagecache::{IVec, Log, PageCache};
 use std::alloc::Global;
 
-/// The value of a key, if it has one.
+/// Returns the value of a key, if it has one.
 pub fn get<L: Log>(
     alloc: Global,
     cache: &mut PageCache<L>,
@@ -32,7 +32,7 @@ pub fn get<L: Log>(
     Ok(value_for(alloc, cache, tree.root, key)?)
 }
 
-/// Sets the value of a key, and answers the one before. What is too long is refused before anything is read.
+/// Sets the value of a key, and returns the value before. A key or value that is too long is refused before anything is read.
 pub fn insert<L: Log>(
     alloc: Global,
     cache: &mut PageCache<L>,
@@ -59,7 +59,7 @@ pub fn insert<L: Log>(
     Ok(set(cache, place, value)?)
 }
 
-/// Takes a key out, and answers the value that it had. A leaf that has few pairs left goes into a neighbour.
+/// Removes a key, and returns the value that it had. A leaf that has few pairs left is merged with a neighbour.
 pub fn remove<L: Log>(
     cache: &mut PageCache<L>,
     limits: Limits,
@@ -84,7 +84,7 @@ pub fn remove<L: Log>(
     Ok(before)
 }
 
-/// Sets the value of a key, or takes it out, where it has the old value, or none. Else the one that it has comes back.
+/// Changes the value of a key to `new` if it is `old`, where `None` means no value. Otherwise it returns the current value as the inner error.
 pub fn compare_and_swap<L: Log>(
     alloc: Global,
     cache: &mut PageCache<L>,

@@ -1,4 +1,4 @@
-//! The steps in which two neighbours become one node.
+//! The steps that merge two neighbours into one node.
 
 ghost use Rattle.std.specs.Prelude.{◌≡◌};
 ghost use Rattle.sled_pagecache.specs.State.{pid_of};
@@ -11,7 +11,7 @@ use crate::freeing::free_all;
 use crate::splits::put;
 use sled_pagecache::{Error, Log, PageCache, PageId};
 
-/// Puts the index without the right one, then both as one node, and frees the page of the right one.
+/// Writes the index without the right neighbour, then both neighbours as one node on the left one's page, and then frees the right one's page.
 pub fn carry_out<L: Log>(
     cache: &mut PageCache<L>,
     root: PageId,

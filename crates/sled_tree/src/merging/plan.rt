@@ -1,4 +1,4 @@
-//! Whether two neighbours can be one node, and what is put in their place: nothing is written here.
+//! Planning a merge: whether two neighbours can be one node, and what replaces them. Nothing is written here.
 
 ghost use Rattle.std.specs.Prelude.{◌≡◌, ◌<◌, true, length, IfOk, IfSome, IsTrue, slice_get, Some};
 ghost use Rattle.sled_base.specs.Order.{Bytes};
@@ -20,14 +20,14 @@ use sled_node::{Item, Link, Node};
 use sled_pagecache::{Error, IVec, Log, PageCache, PageId, PageView, sled_node};
 use sled_search::is_key_at;
 
-/// Two children of an index, one behind the other.
+/// Two adjacent children of an index.
 #[derive(Clone, Copy)]
 pub struct Neighbours {
     pub left: PageId,
     pub right: PageId,
 }
 
-/// What is put on the page above and on that of the left one, and the page of the right one, which is freed.
+/// What a merge does: the new nodes for the page above and for the left neighbour's page, and the right neighbour's page, which is freed.
 #[derive(Drop)]
 pub struct Plan {
     pub above: Changed,
@@ -35,7 +35,7 @@ pub struct Plan {
     pub right: PageView,
 }
 
-/// The children at the place before this one and at it, if there are both.
+/// Returns the children at place `at - 1` and at place `at`, if there are both.
 pub fn neighbours_at(index: &Node, at: usize) -> Option<Neighbours> {
     if at == 0 || at >= index.len() {
         return None;
@@ -57,7 +57,9 @@ fn child_at(index: &Node, at: usize) -> Option<PageId>
     }
 }
 
-/// What is to be done, if the index above leads to both neighbours, the left one to the right one, and both have few enough pairs.
+/// Returns the plan of a merge, or `None` if the neighbours can't be merged.
+///
+/// They can if the index above leads to both and searches reach it, the left one leads on to the right one, and both have few enough pairs.
 pub fn plan_for<L: Log>(
     cache: &mut PageCache<L>,
     root: PageId,

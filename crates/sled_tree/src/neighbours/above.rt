@@ -1,4 +1,4 @@
-//! The first pair behind a bound.
+//! The first pair after a bound.
 
 ghost use Rattle.std.specs.Prelude.{IfOk};
 ghost use Rattle.sled_search.specs.Map.{Map};
@@ -14,7 +14,7 @@ use sled_node::Node;
 use sled_pagecache::{Error, IVec, Log, PageCache, PageId, sled_node};
 use std::ops::Bound;
 
-/// The first pair behind the bound in the tree with this root.
+/// Returns the first pair after the bound in the tree with this root, if there is one.
 pub fn next_above<L: Log>(
     cache: &mut PageCache<L>,
     root: PageId,

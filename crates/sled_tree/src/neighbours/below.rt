@@ -15,7 +15,7 @@ use sled_node::Node;
 use sled_pagecache::{Error, IVec, Log, PageCache, PageId, sled_node};
 use std::ops::Bound;
 
-/// The last pair before the bound in the tree with this root.
+/// Returns the last pair before the bound in the tree with this root, if there is one.
 pub fn next_below<L: Log>(
     cache: &mut PageCache<L>,
     root: PageId,

@@ -1,4 +1,4 @@
-//! How many pairs there are.
+//! The number of pairs.
 
 ghost use Rattle.std.specs.Prelude.{◌≡◌, IfOk, length};
 ghost use Rattle.sled_search.specs.Map.{Map};
@@ -18,7 +18,7 @@ struct Part {
     end: IVec,
 }
 
-/// How many pairs the tree with this root has. It reads each leaf. More than a u64 holds are refused as corruption.
+/// Returns the number of pairs of the tree with this root. It reads every leaf. More pairs than a u64 holds are refused with `Corruption`.
 pub fn count_all<L: Log>(cache: &mut PageCache<L>, root: PageId) -> Result<u64, Error>
     ensures { Performs L.Log (Reads result (λ pages count. (m : Map) → IsTreeOf pages root m
         → count ≡ length m)) cache.old cache.new }

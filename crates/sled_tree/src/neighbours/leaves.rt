@@ -1,4 +1,4 @@
-//! From a tree's root to the leaf of a key, or of the keys right before a bound.
+//! From a tree's root to the leaf of a key, or to that of the keys just before a bound.
 
 ghost use Rattle.sled_search.specs.Ordered.{start_of};
 ghost use Rattle.sled_search.specs.Routes.{RoutesBefore};
@@ -12,7 +12,7 @@ use sled_pagecache::{Error, IVec, Log, PageCache, PageId};
 use sled_search::{Turn, route_before};
 use std::ops::Bound;
 
-/// The leaf in which the first key behind the bound is, or would be.
+/// Returns the leaf of the bound's key, or the first leaf if there is no bound. No key after the bound is in an earlier leaf.
 pub fn leaf_above<L: Log>(
     cache: &mut PageCache<L>,
     root: PageId,
@@ -28,7 +28,7 @@ pub fn leaf_above<L: Log>(
     }
 }
 
-/// The leaf of a key.
+/// Returns the leaf of a key.
 pub fn leaf_of<L: Log>(cache: &mut PageCache<L>, root: PageId, key: &[u8]) -> Result<PageId, Error>
     ensures { Performs L.Log (Reads result (λ pages leaf.
         ComesToLeafOf pages key.now key.now leaf root)) cache.old cache.new }
@@ -44,7 +44,7 @@ pub fn leaf_of<L: Log>(cache: &mut PageCache<L>, root: PageId, key: &[u8]) -> Re
     Err(Error::Corruption(None))
 }
 
-/// The leaf of the keys right before the bound.
+/// Returns the leaf of the keys just before the bound.
 pub fn leaf_before<L: Log>(
     cache: &mut PageCache<L>,
     root: PageId,

@@ -16,12 +16,12 @@ use sled_pagecache::{Error, IVec, Log, PageCache, PageId, sled_node};
 use std::alloc::Global;
 use std::ops::Bound;
 
-/// The pairs of a map within two bounds that one leaf has, and where the others begin.
+/// The first pairs of a map within two bounds, those that one leaf has, and the key from which the others begin.
 #[derive(Drop)]
 pub struct Piece {
-    /// The pairs, in the order of their keys.
+    /// The pairs, in key order.
     pub pairs: Vec<(IVec, IVec)>,
-    /// All others are from this key on, and before the same bound. There are none where there is no such key.
+    /// All other pairs within the bounds are at this key or after it. If it is `None`, there are no others.
     pub rest: Option<IVec>,
 }
 
@@ -32,7 +32,7 @@ struct LeafPart {
     end: IVec,
 }
 
-/// The pairs of one leaf that are within the bounds, of the first leaf that has any.
+/// Returns the pairs within the bounds of the first leaf that has any.
 pub fn pairs_within<L: Log>(
     alloc: Global,
     cache: &mut PageCache<L>,

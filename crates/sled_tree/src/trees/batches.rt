@@ -1,4 +1,4 @@
-//! What is done for all maps at once: ids, flushing, and batches.
+//! Calls for all maps at once: ids, flushing, and batches.
 
 ghost use Rattle.std.specs.Prelude.{◌≡◌, ◌+◌, true, false, Ok, IfErr, IfOk, IsErrOf, OnErr, OnOk, []};
 ghost use Rattle.sled_pagecache.specs.Answers.{IsCovered};
@@ -14,9 +14,10 @@ use crate::error::TreeError;
 use sled_pagecache::Log;
 
 impl<L: Log> Trees<L> {
-    /// The next id, which no call answered before.
+    /// Returns the next id, which no call returned before.
     ///
-    /// An error uses no id. Where the counter of ids has to be raised, `BatchOpen` comes inside a batch.
+    /// An error uses no id. `IdsUsedUp` means that the next id would be above the greatest u64. If the counter of ids has to be raised, it returns
+    /// `BatchOpen` inside a batch, `StampUsedUp` if the stamp of the counter's page is the greatest, and `LogFull` if the log has no room.
     pub fn generate_id(&mut self) -> Result<u64, TreeError>
         ensures maps { Performs L.Log KeepsMaps self.old self.new }
         ensures id { IfOk result (λ id. (id ≡ self.old.next)
@@ -27,7 +28,7 @@ impl<L: Log> Trees<L> {
         Ok(self.cache.generate_id_inner()?)
     }
 
-    /// Makes all changes durable, and answers how many bytes that wrote. `BatchOpen` comes inside a batch.
+    /// Makes all changes durable, and returns the number of bytes written. It returns `BatchOpen` inside a batch.
     pub fn flush(&mut self) -> Result<usize, TreeError>
         ensures maps { FlushesMaps L.Log result self.old self.new }
         ensures stable { OnOk result ((L.state self.new.log).pending ≡ []) }
@@ -37,14 +38,16 @@ impl<L: Log> Trees<L> {
         Ok(self.cache.flush()?)
     }
 
-    /// Whether a batch is open.
+    /// Returns whether a batch is open.
     pub fn batch_open(&self) -> bool
         ensures { result ≡ self.now.batch }
     {
         self.cache.batch_open()
     }
 
-    /// Opens a batch. It stays open until `seal` or `cancel`. `BatchOpen` comes where one is open.
+    /// Opens a batch, which stays open until `seal` or `cancel`.
+    ///
+    /// It returns `BatchOpen` if one is open, and `LogFull` if the log has no room for the marks of a batch. An error opens no batch.
     pub fn pin(&mut self) -> Result<(), TreeError>
         ensures maps { Performs L.Log KeepsMaps self.old self.new }
         ensures opens { OnOk result ((self.old.batch ≡ false) × (self.new.batch ≡ true)) }
@@ -54,8 +57,9 @@ impl<L: Log> Trees<L> {
         Ok(self.cache.pin()?)
     }
 
-    /// Closes the open batch: a crash leaves all of its changes, in whichever maps they are, or none. `NoBatch` comes where none is open,
-    /// and nowhere else.
+    /// Seals and closes the open batch: a crash leaves all of its changes, in whichever maps they are, or none.
+    ///
+    /// It returns `NoBatch` if none is open, and only then. The only other error is a write error; the batch is closed then too.
     pub fn seal(&mut self) -> Result<(), TreeError>
         ensures pages { Performs L.Log LeavesPages self.old self.new }
         ensures none { self.old.batch ≡ false → IsErrOf result NoBatch × (self.new ≡ self.old) }
@@ -69,7 +73,9 @@ impl<L: Log> Trees<L> {
         Ok(self.cache.seal()?)
     }
 
-    /// Closes the open batch, of which a crash may leave a part. Its changes stand. `NoBatch` comes where none is open, and nowhere else.
+    /// Closes the open batch without sealing it: a crash may leave a part of its changes. No change is undone in the maps.
+    ///
+    /// It returns `NoBatch` if none is open, and only then. The only other error is a write error; the batch is closed then too.
     pub fn cancel(&mut self) -> Result<(), TreeError>
         ensures pages { Performs L.Log LeavesPages self.old self.new }
         ensures none { self.old.batch ≡ false → IsErrOf result NoBatch × (self.new ≡ self.old) }

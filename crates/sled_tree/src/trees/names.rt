@@ -1,6 +1,6 @@
 //! Maps by their names.
 
-ghost use Rattle.std.specs.Prelude.{◌≡◌, IfErr};
+ghost use Rattle.std.specs.Prelude.{IfErr};
 ghost use Rattle.sled_tree.specs.Changed.{Reads};
 ghost use Rattle.sled_tree.specs.Dropping.{AreNamesOf, DropsMap, IsMapOf};
 ghost use Rattle.sled_tree.specs.Errors.{IsOfCache};
@@ -14,9 +14,10 @@ use crate::maps::names;
 use sled_pagecache::{IVec, Log};
 
 impl<L: Log> Trees<L> {
-    /// The map of this name, which is made, with nothing in it, where there is none.
+    /// Returns the map of this name, and makes an empty one if there is none.
     ///
-    /// `NameTooLong` and `TooManyNames` come before anything is made.
+    /// `NameTooLong` and `TooManyNames` are returned before anything is made. `PagesUsedUp`, `StampUsedUp`, `LogFull` or `OutOfMemory` may come after
+    /// a leaf, or a leaf and an index, was made for the map: these pages stay allocated, and no name leads to them.
     pub fn open(&mut self, name: &[u8]) -> Result<Tree, TreeError>
         ensures maps { Performs L.Log (OpensMap root_of name.now result) self.old self.new }
         ensures errors { IfErr result IsOfCache }
@@ -24,9 +25,9 @@ impl<L: Log> Trees<L> {
         names::open(self.alloc, &mut self.cache, name)
     }
 
-    /// The map of this name, or none where there is none: nothing is made.
+    /// Returns the map of this name, or `None` if there is none. It makes no map.
     ///
-    /// Nothing is read from the log, and nothing allocated. The error is a write error that is kept.
+    /// It reads nothing from the log and allocates nothing. The only error is the sticky write error of an earlier call.
     pub fn get_tree(&self, name: &[u8]) -> Result<Option<Tree>, TreeError>
         ensures map { Performs L.Log (Reads result (IsMapOf name.now)) self.now self.now }
         ensures errors { IfErr result IsOfCache }
@@ -34,9 +35,9 @@ impl<L: Log> Trees<L> {
         names::get_tree(&self.cache, name)
     }
 
-    /// The names of the maps, in their order.
+    /// Returns the names of the maps, in ascending order.
     ///
-    /// Nothing is read from the log. The errors are `OutOfMemory`, and a write error that is kept.
+    /// It reads nothing from the log. The only errors are `OutOfMemory` and the sticky write error of an earlier call.
     pub fn names(&self) -> Result<Vec<IVec>, TreeError>
         ensures names { Performs L.Log (Reads result AreNamesOf) self.now self.now }
         ensures errors { IfErr result IsOfCache }
@@ -44,15 +45,16 @@ impl<L: Log> Trees<L> {
         names::names(self.alloc, &self.cache)
     }
 
-    /// Takes away the map of this name with all that it has, and answers whether there was one. Its tokens are of no map then: a call with
+    /// Drops the map of this name with all of its pairs, and returns whether there was one. The tokens of the map are invalid after that: a call with
     /// one of them may read or change another map.
     ///
-    /// First its pages are gathered: all are read, and each takes 16 bytes of memory. An error of that leaves everything, as does any before
-    /// the name is gone: `OutOfMemory`, a read error, `LogFull`, or `Corruption` where a search comes to no leaf. Where the write of the
-    /// names fails, the name may be gone from the log, and the error is kept.
+    /// First it collects the map's pages: it reads all of them, and uses 16 bytes of memory for each. An error here, or at any time before the name
+    /// is removed, leaves everything as it was: `OutOfMemory`, a read error, `LogFull`, `StampUsedUp` if the stamp of the page of the names is the
+    /// greatest, or `Corruption` if a search comes to no leaf or a page is damaged. If the write of the names fails, the name may be gone from the
+    /// log; the error is sticky.
     ///
-    /// Then the pages are freed, and there is no error any more. What can't be freed, for want of memory or of room in the log, and what a
-    /// crash leaves, stays, and nothing leads there. A write error meanwhile is kept by the cache, and the next call answers it.
+    /// Then it frees the pages, and returns no error any more. A page stays allocated if it can't be freed, because memory or the log is full, or if
+    /// a crash comes first; nothing leads to such a page. A write error in this step is sticky, and the next call returns it.
     pub fn drop_tree(&mut self, name: &[u8]) -> Result<bool, TreeError>
         ensures maps { Performs L.Log (DropsMap name.now result) self.old self.new }
         ensures errors { IfErr result IsOfCache }

@@ -1,4 +1,4 @@
-//! The pairs of a map in the order of their keys.
+//! The pairs of a map in key order.
 
 ghost use Rattle.std.specs.Prelude.{◌≡◌, ◌↔◌, IfErr, IsTrue, [], length};
 ghost use Rattle.sled_tree.specs.Errors.{IsOfCache};
@@ -13,7 +13,7 @@ use sled_pagecache::{IVec, Log};
 use std::ops::Bound;
 
 impl<L: Log> Trees<L> {
-    /// The pair with the least key, or none where the map has no pair.
+    /// Returns the pair with the least key, or `None` if the map has no pair.
     pub fn first(&mut self, tree: Tree) -> Result<Option<(IVec, IVec)>, TreeError>
         ensures pair { ReadsMap L.Log tree (λ m answer. answer ≡ first_of m) result self.old self.new }
         ensures errors { IfErr result IsOfCache }
@@ -21,7 +21,7 @@ impl<L: Log> Trees<L> {
         ordered::first(&mut self.cache, tree)
     }
 
-    /// The pair with the greatest key, or none where the map has no pair.
+    /// Returns the pair with the greatest key, or `None` if the map has no pair.
     pub fn last(&mut self, tree: Tree) -> Result<Option<(IVec, IVec)>, TreeError>
         ensures pair { ReadsMap L.Log tree (λ m answer. answer ≡ last_of m) result self.old self.new }
         ensures errors { IfErr result IsOfCache }
@@ -29,9 +29,9 @@ impl<L: Log> Trees<L> {
         ordered::last(&mut self.cache, tree)
     }
 
-    /// The first pair behind the bound, or none where there is none behind it.
+    /// Returns the first pair after the bound, or `None` if there is none.
     ///
-    /// An included key is behind its own bound, and without a bound all are.
+    /// An included key counts as after its own bound. If the bound is `Unbounded`, all keys count.
     pub fn next_above(
         &mut self,
         tree: Tree,
@@ -43,9 +43,9 @@ impl<L: Log> Trees<L> {
         ordered::next_above(&mut self.cache, tree, bound)
     }
 
-    /// The last pair before the bound, or none where there is none before it.
+    /// Returns the last pair before the bound, or `None` if there is none.
     ///
-    /// An included key is before its own bound, and without a bound all are.
+    /// An included key counts as before its own bound. If the bound is `Unbounded`, all keys count.
     pub fn next_below(
         &mut self,
         tree: Tree,
@@ -57,8 +57,8 @@ impl<L: Log> Trees<L> {
         ordered::next_below(&mut self.cache, tree, bound)
     }
 
-    /// The first pairs behind the one bound and before the other, in their order: those that one leaf has, and the key from which on the
-    /// others are, if there are any. A call with that key included goes on. There is no pair only where the map has none there.
+    /// Returns the first pairs after `from` and before `to`, in key order: those that one leaf has, and the key from which the others begin, if there
+    /// are any. To continue, call it again with that key as an included bound. It returns no pair only if the map has none within the bounds.
     pub fn range(
         &mut self,
         tree: Tree,
@@ -71,7 +71,7 @@ impl<L: Log> Trees<L> {
         ordered::range(self.alloc, &mut self.cache, tree, from, to)
     }
 
-    /// How many pairs there are. It reads each leaf, and refuses to count more than a u64 holds with `Corruption`.
+    /// Returns the number of pairs. It reads every leaf, and returns `Corruption` if there are more pairs than a u64 holds.
     pub fn len(&mut self, tree: Tree) -> Result<u64, TreeError>
         ensures count { ReadsMap L.Log tree (λ m count. count ≡ length m) result self.old self.new }
         ensures errors { IfErr result IsOfCache }
@@ -79,7 +79,7 @@ impl<L: Log> Trees<L> {
         ordered::len(&mut self.cache, tree)
     }
 
-    /// Whether there is no pair.
+    /// Returns whether the map has no pair.
     pub fn is_empty(&mut self, tree: Tree) -> Result<bool, TreeError>
         ensures none { ReadsMap L.Log tree (λ m none. IsTrue none ↔ (m ≡ [])) result self.old self.new }
         ensures errors { IfErr result IsOfCache }

@@ -1,4 +1,4 @@
-//! The values of keys: reading and changing one.
+//! Reading and changing the value of a key.
 
 ghost use Rattle.std.specs.Prelude.{◌≡◌, ◌⊎◌, [], IfErr, IsErrOf, unwrap_or};
 ghost use Rattle.std.specs.Option.{is_some, option_map};
@@ -14,7 +14,7 @@ use crate::maps::values;
 use sled_pagecache::{IVec, Log};
 
 impl<L: Log> Trees<L> {
-    /// The value of a key, if it has one. Nothing is written.
+    /// Returns a copy of the value of a key, if it has one. It writes nothing.
     pub fn get(&mut self, tree: Tree, key: &[u8]) -> Result<Option<IVec>, TreeError>
         ensures value { ReadsMap L.Log tree (λ m value. value ≡ at_key m key.now) result self.old self.new }
         ensures errors { IfErr result IsOfCache }
@@ -22,7 +22,7 @@ impl<L: Log> Trees<L> {
         values::get(self.alloc, &mut self.cache, tree, key)
     }
 
-    /// Whether a key has a value. Nothing is written.
+    /// Returns whether a key has a value. It writes nothing.
     pub fn contains_key(&mut self, tree: Tree, key: &[u8]) -> Result<bool, TreeError>
         ensures there { ReadsMap L.Log tree (λ m there. there ≡ is_some (at_key m key.now)) result self.old self.new }
         ensures errors { IfErr result IsOfCache }
@@ -30,9 +30,10 @@ impl<L: Log> Trees<L> {
         Ok(self.get(tree, key)?.is_some())
     }
 
-    /// Sets the value of a key, and answers the one before.
+    /// Sets the value of a key, and returns the value before.
     ///
-    /// `KeyTooLong` and `ValueTooLong` come before anything is read.
+    /// `KeyTooLong` and `ValueTooLong` are returned before anything is read. `LogFull`, `StampUsedUp`, and `PagesUsedUp` where a node has to be
+    /// split, leave the map as it was.
     pub fn insert(&mut self, tree: Tree, key: &[u8], value: IVec) -> Result<Option<IVec>, TreeError>
         ensures maps { Performs L.Log
             (ChangesMap (root_of tree) (SetsKey (root_of tree) key.now value result)) self.old
@@ -45,13 +46,13 @@ impl<L: Log> Trees<L> {
         values::insert(self.alloc, &mut self.cache, self.limits, tree, key, value)
     }
 
-    /// Takes a key out, and answers the value that it had.
+    /// Removes a key, and returns the value that it had.
     ///
-    /// A leaf that has fewer than 4 pairs left goes into a neighbour, if that has room, and its page is freed; so does an index with fewer
-    /// than 64 children on the way there. That reads the neighbours, and answers no error: what is refused is left for a later removal, and
-    /// a write error is kept by the cache, and the next call answers it.
+    /// If the leaf has fewer than 4 pairs left, it is merged with a neighbour under the same index that has room, and the page of the right one of
+    /// the two is freed. In that case, each index on the way to the leaf with fewer than 64 children is merged in the same way too. Merging reads the
+    /// neighbours, and returns no error: what can't be merged is left for a later removal, and a write error is sticky, so the next call returns it.
     ///
-    /// `KeyTooLong` comes before anything is read.
+    /// `KeyTooLong` is returned before anything is read. `LogFull` and `StampUsedUp` leave the map as it was.
     pub fn remove(&mut self, tree: Tree, key: &[u8]) -> Result<Option<IVec>, TreeError>
         ensures maps { Performs L.Log
             (ChangesMap (root_of tree) (TakesKey (root_of tree) key.now result)) self.old self.new }
@@ -61,10 +62,11 @@ impl<L: Log> Trees<L> {
         values::remove(&mut self.cache, self.limits, tree, key)
     }
 
-    /// Sets the value of a key, or takes it out, where it has the old value, or none. Where it has another one, or none, that comes back,
-    /// and the map stays.
+    /// Changes the value of a key to `new` if it is `old`. `None` means no value: with `old` it expects that the key is absent, and with `new` it
+    /// removes the key. If the key has another value, or none, the call returns that as the inner error, and the map stays as it was.
     ///
-    /// `KeyTooLong` and `ValueTooLong` come before anything is read.
+    /// Removing a key may merge nodes as `remove` does. `KeyTooLong` and `ValueTooLong` are returned before anything is read. `LogFull`,
+    /// `StampUsedUp`, and `PagesUsedUp` where a node has to be split, leave the map as it was.
     pub fn compare_and_swap(
         &mut self,
         tree: Tree,

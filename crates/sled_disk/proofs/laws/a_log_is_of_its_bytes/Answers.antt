@@ -1,6 +1,6 @@
 use Rattle.sled_disk.specs.Reading.{chains_of}
-use Rattle.sled_disk.specs.Standing.{records_behind}
-use Rattle.sled_disk.proofs.OfItsBytes.{of-its-bytes}
+use Rattle.sled_disk.specs.LogContents.{records_behind}
+use Rattle.sled_disk.proofs.LogCalls.LogOfBytes.{of-its-bytes}
 use Rattle.sled_disk.proofs.laws.a_log_is_of_its_bytes.Goals as goal
 
 pub returns : goal.returns

@@ -1,4 +1,4 @@
-use Rattle.sled_disk.specs.DurableLaws.{behind-gate}
+use Rattle.sled_disk.specs.AppendedFrameLaws.{behind-gate}
 use Rattle.sled_disk.proofs.laws.bytes_behind_the_gate_say_nothing.Goals as goal
 
 pub returns : goal.returns

@@ -1,10 +1,10 @@
-//! The disk in memory as a file: one of the system, and one of a caller.
+//! The disk in memory as a file of the system, and as a caller's file.
 
-ghost use Rattle.std.specs.Prelude.{⊤, ◌≡◌, ◌≤◌, ◌++◌, ℕ, List, [], ◌∷◌, false, length, take, drop, IsTrue};
-ghost use Rattle.sled_disk.specs.CallersFile.{bytewise, held_after, writes_of};
+ghost use Rattle.std.specs.Prelude.{⊤, false, length};
+ghost use Rattle.sled_disk.specs.CallersFile.{bytewise};
 ghost use Rattle.sled_disk.specs.CallersFileLaws.{bytes-calls, leaves-calls};
-ghost use Rattle.sled_disk.specs.DiskMemory.{bytes_of, calls_of, clock_of, may_leave_of, might_have_left};
-ghost use Rattle.sled_disk.specs.Journal.{MayLeave, WasLeft, Sync, all_synced, after_calls};
+ghost use Rattle.sled_disk.specs.DiskMemory.{calls_of};
+ghost use Rattle.sled_disk.specs.Journal.{MayLeave, WasLeft, all_synced, after_calls};
 ghost use Rattle.sled_disk.specs.JournalLaws.{left_by_now, only_by_now, left_earlier, seen_left};
 
 use super::MemDisk;
@@ -12,7 +12,8 @@ use crate::disk::{CallersFile, Disk, SystemFile};
 use std::io;
 use std::io::ErrorKind;
 
-/// A file that keeps its word, for tests of what stands on a file: no read of it fails, and a write or a sync does where the disk's does.
+/// A file that keeps its word, for tests of what is built on a file. No read of it fails, and a write or a sync fails if that of the disk
+/// does.
 impl SystemFile for MemDisk {
     ghost tells = { ⊤ };
 
@@ -69,7 +70,8 @@ impl SystemFile for MemDisk {
     }
 }
 
-/// A caller's file that keeps its word, for tests of what stands on a staged disk: a task fails where the disk does, and changes nothing then.
+/// A caller's file that keeps its word, for tests of what is built on a staged disk. A task fails if the disk fails, and then changes
+/// nothing.
 impl CallersFile for MemDisk {
     ghost tells = { ⊤ };
 

@@ -1,24 +1,24 @@
 //! The tasks of a staged disk, done on another disk.
 
-ghost use Rattle.std.specs.Prelude.{◌≡◌, ◌≤◌, ◌⊎◌, List, ℕ, [], ◌∷◌, true, false, length, IfErr, IfOk, OnOk, OnErr};
+ghost use Rattle.std.specs.Prelude.{◌≡◌, ◌≤◌, ◌⊎◌, [], ◌∷◌, true, false, length, IfErr, IfOk, OnOk, OnErr};
 ghost use Rattle.sled_log.specs.Calls.{HasCause};
 ghost use Rattle.sled_log.specs.declared.log.LogError.TheVariants.{Memory, ReadFault, WriteFault};
 ghost use Rattle.sled_disk.specs.Disk.{Follows, LeavesNoMore, Torn, overlaid};
-ghost use Rattle.sled_disk.specs.HandedIn.{FitsIn, IsThere, LeavesTask, SettlesTask, after_task};
+ghost use Rattle.sled_disk.specs.StagedReads.{FitsIn, IsThere, LeavesTask, SettlesTask, after_task};
 ghost use Rattle.sled_disk.specs.Staged.{failed, might_have_left, HandsOut, IsDoneOn, StaysTheSame};
 
 use super::{CallersFile, StagedDisk, Task};
 use crate::disk::Disk;
 use sled_log::LogError;
 
-/// Does the next task of a staged disk on another disk, as the loop of a caller does: the task, or `None` where nothing waits. A byte that is
-/// there already is written by `write_again`.
+/// Does the next task of a staged disk on another disk, as a caller's loop does, and returns it. Returns `None` if no task is handed out. A
+/// single byte that is there already is written with `write_again`.
 ///
-/// So a disk that tells its bytes does what a caller's file does that keeps its word: where it had done all that was handed out, it has done
-/// this too, and once nothing waits a read of it gives what one of the staged disk does. A crash of it, inside the call too, is one of the
-/// crash states of the staged disk since it began.
+/// If both disks tell their bytes, the other one behaves as the file of a caller that keeps its word. If it had done all tasks that were
+/// handed out before, it has done this one too, and once none is queued its reads return what those of the staged disk do. A crash of it,
+/// even inside this call, leaves one of the crash states of the staged disk since the call began.
 ///
-/// Memory, ReadFault and WriteFault are the disk's. The staged disk is told of that, and hands out no more.
+/// Memory, ReadFault and WriteFault: the other disk failed. The staged disk is then as after `fail`, and hands out no further task.
 pub fn do_task<F: CallersFile, D: Disk>(
     staged: &mut StagedDisk<F>,
     disk: &mut D,

@@ -43,7 +43,7 @@ pub(super) struct Pieces {
 }
 
 impl Pieces {
-    ghost use Rattle.sled_disk.specs.HandedIn.{StandsAt, ArePieces, is_outside, SameOutside};
+    ghost use Rattle.sled_disk.specs.StagedReads.{StandsAt, ArePieces, is_outside, SameOutside};
 
     // No pieces.
     pub(super) fn new(alloc: Global) -> Pieces

@@ -21,7 +21,7 @@ pub(super) struct Stage {
 impl Stage {
     ghost use Rattle.sled_disk.specs.Disk.{overlaid};
     ghost use Rattle.sled_disk.specs.CallersFile.{bytewise, held_after};
-    ghost use Rattle.sled_disk.specs.HandedIn.{AddsTask, StandsAt, ArePieces, AreWithin, after_task, seen_in};
+    ghost use Rattle.sled_disk.specs.StagedReads.{AddsTask, StandsAt, ArePieces, AreWithin, after_task, seen_in};
     ghost use Rattle.sled_disk.specs.Journal.{Write, Again, Sync};
     ghost use Rattle.sled_disk.specs.Staged.{HandsNone};
     ghost use Rattle.sled_disk.specs.Tasks.{tasks_in, IsHandedOut};

@@ -11,9 +11,9 @@ use std::collections::VecDeque;
 /// What the caller of a `StagedDisk` does next to its file.
 #[derive(Clone, Copy, PartialEq, Eq, Debug)]
 pub enum Task {
-    /// Write at a place so many bytes, which stand at the front of the buffer that was given.
+    /// Write `len` bytes at place `at`. They are at the front of the buffer that was passed to `next_task`.
     Write { at: u64, len: usize },
-    /// Make durable all that was written before.
+    /// Make durable everything that was written before.
     Sync,
 }
 
@@ -51,7 +51,7 @@ pub(super) struct Tasks {
 
 impl Tasks {
     ghost use Rattle.sled_disk.specs.CallersFile.{bytewise, held_after};
-    ghost use Rattle.sled_disk.specs.HandedIn.{AddsTask, AreWithin, IsThere, LeavesBetween};
+    ghost use Rattle.sled_disk.specs.StagedReads.{AddsTask, AreWithin, IsThere, LeavesBetween};
     ghost use Rattle.sled_disk.specs.Journal.{Sync};
     ghost use Rattle.sled_disk.specs.Tasks.{tasks_in, write_if, HasRoom, IsHandedOut};
 

@@ -31,7 +31,7 @@ const FIRST: u32 = 4;
 
 const LAST: u32 = 5;
 
-/// The bounds of a piece of a map, each a number of its kind and a key, which isn't looked at where there is no bound.
+/// The bounds of a piece of a map: the kind of each as a number, and its key, which is ignored if the kind is unbounded.
 #[derive(Clone, Copy)]
 pub struct Bounds<'a> {
     pub from_kind: u32,
@@ -40,21 +40,21 @@ pub struct Bounds<'a> {
     pub to: &'a [u8],
 }
 
-/// What is told of a piece of a map beside its pairs.
+/// What is reported of a piece of a map besides its pairs.
 #[repr(C)]
 #[derive(Clone, Copy)]
 pub struct FoundPiece {
     /// How many pairs there are.
     pub count: usize,
-    /// How many bytes they take.
+    /// How many bytes they take; `count` reports 0.
     pub pairs_len: usize,
-    /// How many bytes the key has from which on the others are.
+    /// The length of the key at which the other pairs begin, or 0 if there are none.
     pub rest_len: usize,
-    /// Whether there are others.
+    /// Whether there are other pairs: the key at which they begin may have no bytes.
     pub more: bool,
 }
 
-/// On which side of a bound a pair is looked for.
+/// The side of a bound on which a pair is looked for.
 #[derive(Drop)]
 pub enum Side {
     Above(Bound<IVec>),

@@ -1,4 +1,4 @@
-use Rattle.sled_pagecache.proofs.Atomic.{cancelled, flushed, sealed, unsealed}
+use Rattle.sled_pagecache.proofs.Crash.AtomicBatches.{cancelled, flushed, sealed, unsealed}
 use Rattle.sled_pagecache.proofs.batches.a_batch_stands_whole_or_not_at_all.Goals as goal
 
 pub returns-clause-unsealed : goal.returns-clause-unsealed

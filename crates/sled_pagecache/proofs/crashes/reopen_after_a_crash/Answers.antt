@@ -1,5 +1,5 @@
 use Rattle.std.proofs.Common.{◌-◌}
-use Rattle.sled_pagecache.proofs.Crashing.{reopens-opened, reopens-refused, reopens-unopened}
+use Rattle.sled_pagecache.proofs.Crash.FlushedCaches.{reopens-opened, reopens-refused, reopens-unopened}
 use Rattle.sled_pagecache.proofs.crashes.reopen_after_a_crash.Goals as goal
 
 pub returns-in-Ok-start : goal.returns-in-Ok-start

@@ -1,6 +1,6 @@
 use Rattle.sled_pagecache.proofs.Names.{◌∙◌, List, [], ap, chains_after, Event, LogState, Entry, effect_of_entry}
-use Rattle.sled_disk.specs.DurableLaws.{one-meaning}
-use Rattle.sled_pagecache.proofs.Crashing.{starts-flushed}
+use Rattle.sled_disk.specs.AppendedFrameLaws.{one-meaning}
+use Rattle.sled_pagecache.proofs.Crash.FlushedCaches.{starts-flushed}
 use Rattle.sled_pagecache.proofs.crashes.start_on_a_new_disk.Goals as goal
 
 pub returns-in-Ok-start : goal.returns-in-Ok-start

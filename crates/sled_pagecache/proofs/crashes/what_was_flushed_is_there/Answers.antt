@@ -1,5 +1,5 @@
 use Rattle.std.proofs.Common.{[]}
-use Rattle.sled_pagecache.proofs.Crashing.{flushed-again}
+use Rattle.sled_pagecache.proofs.Crash.FlushedCaches.{flushed-again}
 use Rattle.sled_pagecache.proofs.crashes.what_was_flushed_is_there.Goals as goal
 
 pub returns : goal.returns

@@ -1,4 +1,4 @@
-use Rattle.sled_pagecache.proofs.Reopening.{crash-reopens}
+use Rattle.sled_pagecache.proofs.Crash.ReopenedCaches.{crash-reopens}
 use Rattle.sled_pagecache.proofs.Names.{changes_of, changes_of_start, List, [], append-nil, Result, Ok, Err, Error, Update, Event, IsPrefix, Cache, Logged, AreAfterPrefix, CrashReopens, Opens, Config, log_after}
 use Rattle.sled_pagecache.specs.Logged.{now}
 use Rattle.sled_pagecache.proofs.laws.a_crash_reopens_to_a_prefix.Goals as goal

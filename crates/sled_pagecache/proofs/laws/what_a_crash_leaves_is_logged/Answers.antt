@@ -1,4 +1,4 @@
-use Rattle.sled_pagecache.proofs.Reopening.{kept-logged}
+use Rattle.sled_pagecache.proofs.Crash.ReopenedCaches.{kept-logged}
 use Rattle.sled_pagecache.proofs.laws.what_a_crash_leaves_is_logged.Goals as goal
 
 pub returns : goal.returns

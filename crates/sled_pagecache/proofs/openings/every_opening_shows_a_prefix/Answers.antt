@@ -1,4 +1,4 @@
-use Rattle.sled_pagecache.proofs.Showing.{every-shows}
+use Rattle.sled_pagecache.proofs.Opening.ShownPrefixes.{every-shows}
 use Rattle.sled_pagecache.proofs.openings.every_opening_shows_a_prefix.Goals as goal
 
 pub returns : goal.returns

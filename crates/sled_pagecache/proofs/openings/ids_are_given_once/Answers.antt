@@ -1,6 +1,6 @@
 use Rattle.sled_pagecache.proofs.Names.{ids_of}
-use Rattle.sled_pagecache.proofs.IdRuns.{rising}
-use Rattle.sled_pagecache.proofs.Showing.{every-shows}
+use Rattle.sled_pagecache.proofs.Ids.IdRuns.{rising}
+use Rattle.sled_pagecache.proofs.Opening.ShownPrefixes.{every-shows}
 use Rattle.sled_pagecache.proofs.openings.ids_are_given_once.Goals as goal
 
 pub returns : goal.returns

@@ -28,7 +28,7 @@ pub enum Call {
     AttemptGc,
 }
 
-/// What a call answered.
+/// The answer of a call.
 #[derive(Debug, Drop)]
 pub enum Answer {
     Allocated(Result<(PageId, PageView), Error>),

@@ -10,14 +10,14 @@ use sled_base::Why;
 pub struct Config {
     /// How many bytes of pages may stay in memory, by the sizes of their messages in the log. At least 256.
     pub cache_capacity: u64,
-    /// A counter is persisted once for so many generated ids. At least 1.
+    /// The length of an interval of generated ids. The counter is persisted once for each interval. At least 1.
     pub idgen_persist_interval: u64,
     /// The size of a segment of the log, in bytes. At least 1.
     pub segment_size: usize,
 }
 
 impl Config {
-    /// What is wrong with the settings, by the first of their faults, in the order of the fields. A cache opens with none alone.
+    /// Returns what is wrong with the settings: the first fault, in the order of the fields. A cache opens only if there is none.
     pub fn fault(self) -> Option<Why>
         ensures { result ≡ fault_of self }
     {

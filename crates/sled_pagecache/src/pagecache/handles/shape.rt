@@ -1,12 +1,12 @@
-//! The shape of a cache: what one knows of it who doesn't know the contents of its pages.
+//! The shape of a cache: what is known of it without the contents of its pages.
 
 ghost use Rattle.std.specs.Prelude.{◌≡◌};
-ghost use Rattle.sled_pagecache.specs.Inside.Shapes.{kind_of_kept};
+ghost use Rattle.sled_pagecache.specs.Inside.PageKinds.{kind_of_page_content};
 
-use crate::pagecache::table::page::Kept;
+use crate::pagecache::table::page_entry::PageContent;
 use std::marker::Model;
 
-/// What a page holds. A page that isn't free and isn't the cache's own holds a node, as far as its messages make one.
+/// The kind of a page. A page that isn't free and isn't the cache's own counts as a node, even if its messages make none.
 #[derive(Clone, Copy, Debug, PartialEq, Eq)]
 pub enum Kind {
     /// Nothing: the page is free.
@@ -28,14 +28,15 @@ pub struct PageShape {
     pub kind: Kind,
 }
 
-/// A cache without the contents of its pages: the stamp and the kind of each id, the next generated id, and whether a write error is kept.
+/// A cache without the contents of its pages: the stamp and the kind of each page, the next generated id, and whether there was a write
+/// error.
 #[derive(Debug, Drop)]
 pub struct Shape {
     /// The pages, by their ids.
     pub pages: Vec<PageShape>,
     /// The next generated id.
     pub next: u128,
-    /// Whether a write error is kept.
+    /// Whether there was a write error.
     pub fault: bool,
 }
 
@@ -48,13 +49,13 @@ impl Model for Shape {
 }
 
 // The kind of what a page keeps.
-pub(crate) fn kind_of(kept: &Kept) -> Kind
-    ensures { result ≡ kind_of_kept kept.now }
+pub(crate) fn kind_of(kept: &PageContent) -> Kind
+    ensures { result ≡ kind_of_page_content kept.now }
 {
     match kept {
-        Kept::Free => Kind::Free,
-        Kept::Counter(_) => Kind::Counter,
-        Kept::Roots(_) => Kind::Roots,
-        Kept::Away | Kept::Node(_) => Kind::Node,
+        PageContent::Free => Kind::Free,
+        PageContent::Counter(_) => Kind::Counter,
+        PageContent::Roots(_) => Kind::Roots,
+        PageContent::OnLog | PageContent::Node(_) => Kind::Node,
     }
 }

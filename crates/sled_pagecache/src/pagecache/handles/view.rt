@@ -1,4 +1,4 @@
-//! What the cache hands out: tokens, and what it lends, nodes and the map of named roots.
+//! What the cache returns: tokens, and references to nodes and to the map of named roots.
 
 ghost use Rattle.std.specs.Prelude.{◌≡◌};
 ghost use Rattle.sled_pagecache.specs.State.{token, pid_of, stamp_of};
@@ -8,8 +8,8 @@ use sled_node::{Meta, Node};
 
 /// The token of a page: its id, and a stamp that the page had.
 ///
-/// Each change of a page raises its stamp, so a token stands for one version of a page. It is plain data: a token of an
-/// earlier opening is judged by its stamp alone.
+/// Each change of a page increases its stamp, so a token identifies one version of a page. It is plain data: of a token from an earlier
+/// opening only the stamp counts.
 #[derive(Clone, Copy, Debug, PartialEq, Eq)]
 pub struct PageView {
     pid: PageId,
@@ -17,21 +17,21 @@ pub struct PageView {
 }
 
 impl PageView {
-    /// The token of a page at a stamp. Whether the page has that stamp is judged by the call that takes the token.
+    /// Makes the token of a page at a stamp. The call that takes the token tests whether the page has that stamp.
     pub fn new(pid: PageId, ts: u64) -> PageView
         ensures { result ≡ token pid ts }
     {
         PageView { pid, stamp: ts }
     }
 
-    /// The page's id.
+    /// Returns the page's id.
     pub fn pid(self) -> PageId
         ensures { result ≡ pid_of self }
     {
         self.pid
     }
 
-    /// The stamp.
+    /// Returns the stamp.
     pub fn ts(self) -> u64
         ensures { result ≡ stamp_of self }
     {
@@ -39,7 +39,7 @@ impl PageView {
     }
 }
 
-/// A node that the cache lends, with its token.
+/// A reference to a node of the cache, with the token of its page.
 #[derive(Clone, Copy, Debug)]
 pub struct NodeView<'a> {
     node: &'a Node,
@@ -54,14 +54,14 @@ impl<'a> NodeView<'a> {
         NodeView { node, token }
     }
 
-    /// The node, lent as long as the view is.
+    /// Returns the node, borrowed for as long as the view is.
     pub fn node(&self) -> &'a Node
         ensures { result.now ≡ self.now.node.now }
     {
         self.node
     }
 
-    /// The token of its page.
+    /// Returns the token of its page.
     pub fn token(&self) -> PageView
         ensures { result ≡ self.now.token }
     {
@@ -69,7 +69,7 @@ impl<'a> NodeView<'a> {
     }
 }
 
-/// The map of named roots that the cache lends, with the token of its page.
+/// A reference to the cache's map of named roots, with the token of its page.
 #[derive(Clone, Copy, Debug)]
 pub struct MetaView<'a> {
     meta: &'a Meta,
@@ -84,14 +84,14 @@ impl<'a> MetaView<'a> {
         MetaView { meta, token }
     }
 
-    /// The map, lent as long as the view is.
+    /// Returns the map, borrowed for as long as the view is.
     pub fn meta(&self) -> &'a Meta
         ensures { result.now ≡ self.now.meta.now }
     {
         self.meta
     }
 
-    /// The token of page 0, which holds the map.
+    /// Returns the token of page 0, which holds the map.
     pub fn token(&self) -> PageView
         ensures { result ≡ self.now.token }
     {

@@ -16,14 +16,14 @@ const MAX_MSG_HEADER_LEN: u64 = 17;
 // No page is accessed with more.
 const MAX_SIZE: u64 = 1 << 63;
 
-/// Which pages were used last, and, once a page was accessed in the present call, the ids that the list dropped for it.
+/// The list of recently used pages and, once a page was accessed in the current call, the ids that the list dropped for it.
 #[derive(Drop)]
 pub(crate) struct Accesses {
     pub(crate) lru: Lru,
     pub(crate) dropped: Dropped,
 }
 
-/// The ids that the list dropped in the present call, once a page was accessed. Their memory is used again.
+/// The ids that the list dropped in the current call, if a page was accessed. The memory of the list of ids is reused.
 ///
 /// Contracts see the ids, if a page was accessed.
 #[derive(Drop)]

@@ -1,6 +1,6 @@
-//! The reading of a page's chain.
+//! Reading a page's chain.
 
-ghost use Rattle.std.specs.Prelude.{◌≡◌, ℕ, ◌<◌, false, true, length, map, IfOk, IfErr};
+ghost use Rattle.std.specs.Prelude.{◌≡◌, ℕ, ◌<◌, false, length, map, IfOk, IfErr};
 ghost use Rattle.sled_log.specs.Chains.{is_empty};
 ghost use Rattle.sled_log.specs.Contents as content;
 ghost use Rattle.sled_log.specs.Messages.{effect_of_entry, messages_of};
@@ -9,11 +9,12 @@ ghost use Rattle.sled_log.specs.Reading.{Makes};
 ghost use Rattle.sled_pagecache.specs.Cache.{chain_at};
 ghost use Rattle.sled_pagecache.specs.Infos.{place_of};
 ghost use Rattle.sled_pagecache.specs.Inside.PageIn.{RefusesPull};
-ghost use Rattle.sled_pagecache.specs.Inside.Sizes.{ReadsLog};
+ghost use Rattle.sled_pagecache.specs.Inside.Measurements.{ReadsLog};
+ghost use Rattle.sled_pagecache.specs.Inside.StickyLog.{IsReady};
 
-use crate::pagecache::memory::reading::{Found, first_held, with_link};
-use crate::pagecache::table::held::HeldNode;
-use crate::pagecache::table::page::CacheInfo;
+use crate::pagecache::memory::reading::{Found, first_boxed, with_link};
+use crate::pagecache::table::boxed_node::BoxedNode;
+use crate::pagecache::table::page_entry::CacheInfo;
 use crate::pagecache::write::sticky_log::StickyLog;
 use sled_base::{PageId, Refusal};
 use sled_log::Log;
@@ -29,9 +30,8 @@ pub(crate) fn read_node<L: Log>(
     sticky_log: &mut StickyLog<L>,
     pid: PageId,
     infos: &[CacheInfo],
-) -> Result<HeldNode, Refusal>
-    requires ready { sticky_log.old.fault ≡ false }
-    requires usable { (L.state sticky_log.old.log).usable ≡ true }
+) -> Result<BoxedNode, Refusal>
+    requires ready { IsReady L.Log sticky_log.old }
     requires some { 0 < length infos.now }
     requires known { L.tells
         → map said_of (chain_at (L.state sticky_log.old.log) pid) ≡ map place_of infos.now }
@@ -52,7 +52,7 @@ pub(crate) fn read_node<L: Log>(
         payload: payload.bytes(&space),
         pointer: first.pointer,
     };
-    let mut made = first_held(&found, alloc);
+    let mut made = first_boxed(&found, alloc);
     for info in &infos[1..] {
         let (kind, payload) = sticky_log.read_to(pid, info.lsn, info.pointer, &mut space)?;
         let found = Found {

@@ -1,11 +1,12 @@
-//! What leaves memory behind a call.
+//! What leaves memory after a call.
 
 ghost use Rattle.std.specs.Prelude.{◌≡◌, None};
-ghost use Rattle.sled_pagecache.specs.Inside.Eviction.{IsOutAt, AreOut, Evicts, lost_by, answer_behind, allocation_behind, move_behind};
+ghost use Rattle.sled_pagecache.specs.Inside.Eviction.{IsOutAt, AreOut, Evicts, lost_by, answer_behind, link_behind, allocation_behind, move_behind};
 
 use crate::pagecache::handles::view::PageView;
 use crate::pagecache::memory::accesses::Accesses;
 use crate::pagecache::table::pagetable::PageTable;
+use crate::pagecache::write::token_check::Rejection;
 use sled_base::{Error, PageId, Refusal};
 
 // Ends a swap whose page was written or refused: pages out what the list dropped for it, and with that the page of a refused one.
@@ -29,6 +30,30 @@ pub(crate) fn end_swap<R: Drop>(
         Err(refusal) => {
             evict(pages, accesses, Some(token.pid()));
             Err(Error::from(refusal))
+        }
+    }
+}
+
+// Ends a link whose page was written or refused, as a swap is ended. It answers the token, and whether the link joined the page's messages.
+#[inline(always)]
+pub(crate) fn end_link(
+    pages: &mut PageTable,
+    accesses: &mut Accesses,
+    token: PageView,
+    linked: Result<bool, Refusal>,
+) -> Result<(PageView, bool), Rejection>
+    ensures evicts { Evicts accesses.old (lost_by token.pid linked) pages.old.pages pages.new.pages
+        accesses.new }
+    ensures answer { result ≡ link_behind token linked }
+{
+    match linked {
+        Ok(joins) => {
+            evict(pages, accesses, None);
+            Ok((token, joins))
+        }
+        Err(refusal) => {
+            evict(pages, accesses, Some(token.pid()));
+            Err(Rejection::Refused(refusal))
         }
     }
 }

@@ -1,4 +1,4 @@
-//! The reading of a page that doesn't lie in memory.
+//! Reading a page that isn't in memory.
 
 ghost use Rattle.std.specs.Prelude.{◌≡◌, ◌<◌, false, true, length, IfErr, IsOk, OnOk, OnErr};
 ghost use Rattle.sled_base.specs.declared.types.Refusal.TheVariants as refusal;
@@ -11,13 +11,13 @@ ghost use Rattle.sled_pagecache.specs.Table.{is_free};
 ghost use Rattle.sled_pagecache.specs.Inside.PageIn.{PullsPage};
 ghost use Rattle.sled_pagecache.specs.Inside.Invariant.{IsFreeOrNode};
 ghost use Rattle.sled_pagecache.specs.Inside.RecentUse.{IsListedAt, AccessesNode};
-ghost use Rattle.sled_pagecache.specs.declared.pagecache.table.page.Kept.TheVariants as kept;
+ghost use Rattle.sled_pagecache.specs.Inside.StickyLog.{IsReady};
 
 use crate::pagecache::memory::accesses::Accesses;
 use crate::pagecache::memory::chain::read_node;
-use crate::pagecache::table::page::{Kept, Page, total_size};
+use crate::pagecache::table::page_entry::{Page, PageContent, total_size};
+use crate::pagecache::write::page_link::link_page;
 use crate::pagecache::write::sticky_log::StickyLog;
-use crate::pagecache::write::swap::link_page;
 use sled_base::{PageId, Refusal};
 use sled_log::Log;
 use sled_node::Link;
@@ -31,14 +31,13 @@ pub(crate) fn pull<L: Log>(
     pid: PageId,
     page: &mut Page,
 ) -> Result<(), Refusal>
-    requires ready { sticky_log.old.fault ≡ false }
-    requires usable { (L.state sticky_log.old.log).usable ≡ true }
+    requires ready { IsReady L.Log sticky_log.old }
     requires kept { L.tells → IsKept (chain_at (L.state sticky_log.old.log) pid) page.old }
     ensures pulled { PullsPage L.Log sticky_log.old pid page.old sticky_log.new page.new result }
     ensures is_there { is_resident page.old.kept ≡ true → IsOk result }
 {
-    if let Kept::Away = page.kept {
-        page.kept = Kept::Node(read_node(alloc, sticky_log, pid, page.cache_infos())?);
+    if let PageContent::OnLog = page.kept {
+        page.kept = PageContent::Node(read_node(alloc, sticky_log, pid, page.cache_infos())?);
     }
     Ok(())
 }
@@ -52,8 +51,7 @@ pub(crate) fn pull_and_access<L: Log>(
     pid: PageId,
     page: &mut Page,
 ) -> Result<(), Refusal>
-    requires ready { sticky_log.old.fault ≡ false }
-    requires usable { (L.state sticky_log.old.log).usable ≡ true }
+    requires ready { IsReady L.Log sticky_log.old }
     requires kept { L.tells → IsKept (chain_at (L.state sticky_log.old.log) pid) page.old }
     ensures pulled { PullsPage L.Log sticky_log.old pid page.old sticky_log.new page.new result }
     ensures left { OnErr result (accesses.new ≡ accesses.old) }
@@ -61,11 +59,11 @@ pub(crate) fn pull_and_access<L: Log>(
         → IsOk result }
     ensures accessed { OnOk result (AccessesNode accesses.old pid page.new accesses.new) }
 {
-    let was_away = matches!(page.kept, Kept::Away);
+    let was_away = matches!(page.kept, PageContent::OnLog);
     pull(alloc, sticky_log, pid, page)?;
     let outcome = access_node(accesses, pid, page);
     if was_away && outcome.is_err() {
-        page.kept = Kept::Away;
+        page.kept = PageContent::OnLog;
     }
     outcome
 }
@@ -78,12 +76,13 @@ fn access_node(accesses: &mut Accesses, pid: PageId, page: &Page) -> Result<(), 
     ensures always { IsListedAt pid page.now accesses.old.lru → IsOk result }
 {
     match page.kept {
-        Kept::Node(_) => accesses.access(pid, total_size(page.cache_infos())),
+        PageContent::Node(_) => accesses.access(pid, total_size(page.cache_infos())),
         _ => Ok(()),
     }
 }
 
-// Applies a link to the node of a page, which is read where it doesn't lie in memory. What a refused link has read isn't kept.
+// Applies a link to the node of a page, which is read where it doesn't lie in memory, and answers whether it joins the page's messages.
+// What a refused link has read isn't kept.
 pub(crate) fn pull_and_link<L: Log>(
     alloc: Global,
     sticky_log: &mut StickyLog<L>,
@@ -91,9 +90,8 @@ pub(crate) fn pull_and_link<L: Log>(
     pid: PageId,
     page: &mut Page,
     link: &Link,
-) -> Result<(), Refusal>
-    requires ready { sticky_log.old.fault ≡ false }
-    requires usable { (L.state sticky_log.old.log).usable ≡ true }
+) -> Result<bool, Refusal>
+    requires ready { IsReady L.Log sticky_log.old }
     requires there { L.tells → pid < length (now effect_of_entry (L.state sticky_log.old.log)) }
     requires kept { L.tells → IsKept (chain_at (L.state sticky_log.old.log) pid) page.old }
     requires full { is_free page.old.kept ≡ false }
@@ -101,13 +99,13 @@ pub(crate) fn pull_and_link<L: Log>(
     ensures { PutsLink L.Log sticky_log.old pid page.old link.now sticky_log.new accesses.old
         accesses.new page.new result }
 {
-    let was_away = matches!(page.kept, Kept::Away);
+    let was_away = matches!(page.kept, PageContent::OnLog);
     pull(alloc, sticky_log, pid, page)?;
     match link_page(alloc, sticky_log, accesses, pid, page, link) {
-        Ok(()) => Ok(()),
+        Ok(joins) => Ok(joins),
         Err(refusal) => {
             if was_away {
-                page.kept = Kept::Away;
+                page.kept = PageContent::OnLog;
             }
             Err(refusal)
         }

@@ -1,4 +1,4 @@
-//! The node of a page, from the messages that a log gives back, one after another.
+//! The node of a page, from the messages that a log returns one after another.
 
 ghost use Rattle.std.specs.Prelude.{◌≡◌, [], IfOk, IfErr, OnOk, OnErr};
 ghost use Rattle.sled_log.specs.Contents as contents;
@@ -7,12 +7,12 @@ ghost use Rattle.sled_node.specs.Node.{WholeNode};
 ghost use Rattle.sled_node.specs.declared.node.link.Link.{Link as NodeLink};
 ghost use Rattle.sled_pagecache.specs.Inside.PageIn.{found_message, EncodesNothing, Follows, Leads, RefusesFirst, RefusesMessage};
 
-use crate::pagecache::table::held::HeldNode;
+use crate::pagecache::table::boxed_node::BoxedNode;
 use sled_base::{Bug, DiskPtr, Error, MessageKind, Refusal};
 use sled_node::{Link, Node, Serialize};
 use std::alloc::Global;
 
-/// A message of a page that a log gave back: its kind, its payload, and where it is kept.
+/// A message of a page that a log returned: its kind, its payload, and where the log stores it.
 #[derive(Clone, Copy)]
 pub(crate) struct Found<'a> {
     pub(crate) kind: MessageKind,
@@ -24,7 +24,7 @@ pub(crate) struct Found<'a> {
 //
 // `FreeInPull` comes where it is of kind Free. `Corruption` comes with its pointer where it is of another kind that puts no node there,
 // or its payload isn't read whole or leaves bytes over. `OutOfMemory` comes for an allocation failure alone.
-pub(crate) fn first_held(found: &Found<'_>, alloc: Global) -> Result<HeldNode, Refusal>
+pub(crate) fn first_boxed(found: &Found<'_>, alloc: Global) -> Result<BoxedNode, Refusal>
     ensures made { IfOk result
         (λ node. IsUpdate (found_message found.now) (contents.Put (contents.Node node))) }
     ensures refused { IfErr result (RefusesFirst found.now) }
@@ -33,7 +33,7 @@ pub(crate) fn first_held(found: &Found<'_>, alloc: Global) -> Result<HeldNode, R
         return Err(Refusal::ReportableBug(Bug::FreeInPull));
     }
     let node = first_node(found, alloc)?;
-    HeldNode::new(alloc, node).map_err(|_| Refusal::OutOfMemory)
+    BoxedNode::new(alloc, node).map_err(|_| Refusal::OutOfMemory)
 }
 
 // What the messages of a page make with one more, which is a link: nothing where those before it make nothing.
@@ -41,10 +41,10 @@ pub(crate) fn first_held(found: &Found<'_>, alloc: Global) -> Result<HeldNode, R
 // `Corruption` comes with its pointer where it is of another kind, its payload isn't read whole or leaves bytes over, or the node doesn't
 // accept it.
 pub(crate) fn with_link(
-    made: Result<HeldNode, Refusal>,
+    made: Result<BoxedNode, Refusal>,
     found: &Found<'_>,
     alloc: Global,
-) -> Result<HeldNode, Refusal>
+) -> Result<BoxedNode, Refusal>
     ensures { Follows made found.now result }
 {
     let mut node = made?;
@@ -66,7 +66,7 @@ fn first_node(found: &Found<'_>, alloc: Global) -> Result<Node, Refusal>
 }
 
 // Applies the link that a message is.
-fn apply_link(node: &mut HeldNode, found: &Found<'_>, alloc: Global) -> Result<(), Refusal>
+fn apply_link(node: &mut BoxedNode, found: &Found<'_>, alloc: Global) -> Result<(), Refusal>
     ensures applied { OnOk result (Leads node.old (found_message found.now) node.new) }
     ensures refused { IfErr result (RefusesMessage found.now.pointer ((after : WholeNode)
         → ¬ Leads node.old (found_message found.now) after)) }

@@ -1,6 +1,6 @@
 //! The opening of a cache: the pages that its log recovers, and the system pages that are missing.
 
-ghost use Rattle.std.specs.Prelude.{◌≡◌, ◌<◌, ◌≤◌, ℕ, [], List, false, true, length, map, slice_get, IfOk, IfErr, IfSome, OnOk};
+ghost use Rattle.std.specs.Prelude.{◌≡◌, ◌<◌, ◌≤◌, ℕ, [], List, false, length, map, slice_get, IfOk, IfErr, IfSome, OnOk};
 ghost use Rattle.sled_base.specs.Errors.{error_of};
 ghost use Rattle.sled_log.specs.Events.{is_open};
 ghost use Rattle.sled_log.specs.Contents.{Content};
@@ -8,7 +8,7 @@ ghost use Rattle.sled_log.specs.Messages.{effect_of_entry, messages_of};
 ghost use Rattle.sled_log.specs.Reading.{Hold};
 ghost use Rattle.sled_log.specs.LogState.{now};
 ghost use Rattle.sled_pagecache.specs.Inside.Invariant.{IsCounted};
-ghost use Rattle.sled_pagecache.specs.Inside.StickyLog.{IsOfLog};
+ghost use Rattle.sled_pagecache.specs.Inside.StickyLog.{IsOfLog, IsReady};
 ghost use Rattle.sled_pagecache.specs.Inside.Loading.{AreRecovered, AreRead, IsTable, IsUnread, IsOpenedWith, RefusesPages, next_id, events_at_start, stamps_at_start};
 ghost use Rattle.sled_pagecache.specs.Inside.LogCalls.{Proceeds, refusal_in};
 ghost use Rattle.sled_pagecache.specs.Inside.SystemPages.{Starts};
@@ -18,14 +18,14 @@ ghost use Rattle.sled_pagecache.specs.Opening.{RefusesOpening};
 ghost use Rattle.sled_pagecache.specs.Inside.Invariant.{IsConsistent, stamps_in};
 
 use crate::pagecache::handles::config::Config;
-use crate::pagecache::open::own::{add_counter, add_roots, read_counter, read_roots};
-use crate::pagecache::open::recovered::{free_of, misfit, recovered_pages};
-use crate::pagecache::table::free::FreeIds;
-use crate::pagecache::table::page::Kept;
+use crate::pagecache::open::own_pages::{add_counter, add_roots, read_counter, read_roots};
+use crate::pagecache::open::recovered_pages::{free_of, misfit, recovered_pages};
+use crate::pagecache::table::free_ids::FreeIds;
+use crate::pagecache::table::page_entry::PageContent;
 use crate::pagecache::table::pagetable::PageTable;
 use crate::pagecache::write::sticky_log::StickyLog;
 use crate::pagecache::{COUNTER_PID, MAX_PAGES, META_PID};
-use sled_base::{PageId, Refusal};
+use sled_base::Refusal;
 use sled_log::Log;
 use std::alloc::Global;
 
@@ -45,8 +45,7 @@ pub(crate) fn open<L: Log>(
     config: Config,
     sticky_log: &mut StickyLog<L>,
 ) -> Result<Opening, Refusal>
-    requires ready { sticky_log.old.fault ≡ false }
-    requires usable { (L.state sticky_log.old.log).usable ≡ true }
+    requires ready { IsReady L.Log sticky_log.old }
     requires closed { is_open (L.state sticky_log.old.log).pending ≡ false }
     requires unopened { sticky_log.old.batch ≡ false }
     ensures proceeds { Starts L.Log sticky_log.old sticky_log.new (refusal_in result) }
@@ -76,8 +75,7 @@ fn load<L: Log>(
     alloc: Global,
     sticky_log: &mut StickyLog<L>,
 ) -> Result<(PageTable, Option<u64>), Refusal>
-    requires ready { sticky_log.old.fault ≡ false }
-    requires usable { (L.state sticky_log.old.log).usable ≡ true }
+    requires ready { IsReady L.Log sticky_log.old }
     ensures proceeds { Proceeds L.Log sticky_log.old sticky_log.new [] (refusal_in result) }
     ensures same { L.tells → sticky_log.new.fault ≡ false → now effect_of_entry
         (L.state sticky_log.new.log) ≡ now effect_of_entry (L.state sticky_log.old.log) }
@@ -105,8 +103,7 @@ fn complete<L: Log>(
     mut pages: PageTable,
     counter: Option<u64>,
 ) -> Result<Opening, Refusal>
-    requires ready { sticky_log.old.fault ≡ false }
-    requires usable { (L.state sticky_log.old.log).usable ≡ true }
+    requires ready { IsReady L.Log sticky_log.old }
     requires closed { is_open (L.state sticky_log.old.log).pending ≡ false }
     requires unopened { sticky_log.old.batch ≡ false }
     requires read { AreRead L.tells (now effect_of_entry (L.state sticky_log.old.log)) pages.pages
@@ -152,8 +149,7 @@ fn next_id(config: Config, counter: Option<u64>) -> u128
 
 // The pages that the log holds, of which none was read yet.
 fn recover_pages<L: Log>(alloc: Global, sticky_log: &mut StickyLog<L>) -> Result<PageTable, Refusal>
-    requires ready { sticky_log.old.fault ≡ false }
-    requires usable { (L.state sticky_log.old.log).usable ≡ true }
+    requires ready { IsReady L.Log sticky_log.old }
     ensures proceeds { Proceeds L.Log sticky_log.old sticky_log.new [] (refusal_in result) }
     ensures same { L.tells → sticky_log.new.fault ≡ false → now effect_of_entry
         (L.state sticky_log.new.log) ≡ now effect_of_entry (L.state sticky_log.old.log) }
@@ -179,8 +175,7 @@ fn read_system_pages<L: Log>(
     sticky_log: &mut StickyLog<L>,
     pages: &mut PageTable,
 ) -> Result<Option<u64>, Refusal>
-    requires ready { sticky_log.old.fault ≡ false }
-    requires usable { (L.state sticky_log.old.log).usable ≡ true }
+    requires ready { IsReady L.Log sticky_log.old }
     requires recovered { AreRecovered L.tells (now effect_of_entry (L.state sticky_log.old.log))
         pages.old.pages }
     ensures proceeds { Proceeds L.Log sticky_log.old sticky_log.new [] (refusal_in result) }
@@ -197,12 +192,12 @@ fn read_system_pages<L: Log>(
         return Ok(None);
     };
     let roots = read_roots(alloc, sticky_log, page)?;
-    pages.get_mut(META_PID).kept = Kept::Roots(roots);
+    pages.get_mut(META_PID).kept = PageContent::Roots(roots);
     let Some(page) = pages.get(COUNTER_PID) else {
         return Ok(None);
     };
     let n = read_counter(alloc, sticky_log, page)?;
-    pages.get_mut(COUNTER_PID).kept = Kept::Counter(n);
+    pages.get_mut(COUNTER_PID).kept = PageContent::Counter(n);
     Ok(Some(n))
 }
 
@@ -212,8 +207,7 @@ fn add_missing<L: Log>(
     sticky_log: &mut StickyLog<L>,
     pages: &mut PageTable,
 ) -> Result<(), Refusal>
-    requires ready { sticky_log.old.fault ≡ false }
-    requires usable { (L.state sticky_log.old.log).usable ≡ true }
+    requires ready { IsReady L.Log sticky_log.old }
     requires closed { is_open (L.state sticky_log.old.log).pending ≡ false }
     requires table { IsTable L.tells (now effect_of_entry (L.state sticky_log.old.log))
         pages.old.pages }

@@ -1,19 +1,19 @@
-//! Where the log keeps the messages of a page.
+//! Where the log stores the messages of a page.
 
 ghost use Rattle.std.specs.Prelude.{◌≡◌, ◌<◌, ◌≤◌, ◌++◌, [], ◌∷◌, true, length, max, vec_len, vec_capacity, IfOk, OnOk};
 ghost use Rattle.sled_pagecache.specs.Limits.{most_messages};
 
 use crate::pagecache::PAGE_CONSOLIDATION_THRESHOLD;
-use crate::pagecache::table::page::CacheInfo;
+use crate::pagecache::table::page_entry::CacheInfo;
 use std::alloc::{AllocError, Global};
 use std::marker::Model;
 
 // Room is made for so many messages where a page gets a second one.
 const FIRST_ROOM: usize = 4;
 
-/// How a log keeps the messages of a page, in the order of its chain. One by itself lies in place.
+/// Where a log stores the messages of a page, in the order of its chain. A single one is stored in place.
 ///
-/// Contracts see the list of them, and whether one more can be put in without memory.
+/// Contracts see the list of them, and whether one more can be added without allocating.
 #[derive(Debug, Drop)]
 pub(crate) struct Infos {
     places: Places,
@@ -27,7 +27,7 @@ enum Places {
 
 impl Model for Infos {
     ghost use Rattle.sled_pagecache.specs.Infos.{InfosView};
-    ghost use Rattle.sled_pagecache.specs.Inside.Infos.{view_of};
+    ghost use Rattle.sled_pagecache.specs.Inside.JoinedInfos.{view_of};
 
     ghost Value = { InfosView };
 

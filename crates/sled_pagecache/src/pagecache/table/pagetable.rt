@@ -1,8 +1,7 @@
-//! The pages of a cache by their ids, which have no gap, in two levels of vectors.
+//! The pages of a cache by their ids, which have no gaps, in two levels of vectors.
 //!
-//! Chunk `pid >> 18` keeps the page of an id at `pid & (2 ^ 18 - 1)`, and all chunks but the last are full. The table grows page
-//! by page: a chunk takes more memory as it fills, so that a table of few pages is small, and growth never moves the pages of
-//! more than one chunk.
+//! Chunk `pid >> 18` holds the page of an id at `pid & (2 ^ 18 - 1)`, and all chunks but the last are full. The table grows page by page: a
+//! chunk takes more memory as it fills, so a table of few pages is small, and growth never moves the pages of more than one chunk.
 
 ghost use Rattle.std.specs.Prelude.{◌≡◌, ◌<◌, ◌≤◌, ◌/◌, ◌%◌, ◌++◌, [], ◌∷◌, true, length, slice_get, MatchOption, IfErr, IsOk, OnOk};
 ghost use Rattle.std.specs.Borrow.{sem};
@@ -10,22 +9,22 @@ ghost use Rattle.sled_pagecache.specs.Limits.{chunk_length, most_pages};
 ghost use Rattle.sled_pagecache.specs.Inside.PageTable.{pages_in, AreFilled, at_last, is_unfilled};
 
 use crate::pagecache::MAX_PID_BITS;
-use crate::pagecache::table::page::Page;
+use crate::pagecache::table::page_entry::Page;
 use sled_base::PageId;
 use std::alloc::{AllocError, Global};
 use std::marker::Model;
 
-/// A chunk keeps at most 2 to this power pages.
+/// A chunk holds at most 2 to this power pages.
 pub(crate) const CHUNK_BITS: u32 = 18;
 
-/// A chunk keeps at most so many pages.
+/// The greatest number of pages in a chunk.
 pub(crate) const CHUNK_LENGTH: usize = 1 << CHUNK_BITS;
 
 const CHUNK_MASK: u64 = (CHUNK_LENGTH - 1) as u64;
 
-/// The pages of a cache by their ids, which have no gap.
+/// The pages of a cache by their ids, which have no gaps.
 ///
-/// Contracts see the list of the pages, which only grows, and whether one more can be put in without memory.
+/// Contracts see the list of the pages, which only grows, and whether one more can be added without allocating.
 #[derive(Drop)]
 pub struct PageTable {
     alloc: Global,
@@ -47,7 +46,7 @@ impl Model for PageTable {
 impl PageTable {
     ghost use Rattle.sled_pagecache.specs.Lending.{LendsPage};
 
-    /// A table with no pages. It takes no memory.
+    /// Makes a table with no pages. It takes no memory.
     pub fn default(alloc: Global) -> PageTable
         ensures { result.pages ≡ [] }
     {
@@ -57,7 +56,7 @@ impl PageTable {
         }
     }
 
-    /// How many pages there are, which is as many as there may be or fewer.
+    /// Returns how many pages there are, which is at most the greatest number that is allowed.
     pub fn len(&self) -> usize
         ensures number { result ≡ length self.now.pages }
         ensures few { result ≤ most_pages }
@@ -68,7 +67,7 @@ impl PageTable {
         }
     }
 
-    /// For how many pages there is room without more memory.
+    /// Returns for how many pages there is room without more memory.
     pub fn capacity(&self) -> usize
         ensures { length self.now.pages ≤ result }
     {
@@ -79,7 +78,7 @@ impl PageTable {
         self.len().saturating_add(spare)
     }
 
-    /// Makes room for one more page, which can then be put in without memory. The only error is out of memory.
+    /// Makes room for one more page, which can then be added without allocating. The only error is out of memory.
     pub fn reserve(&mut self) -> Result<(), AllocError>
         ensures same { self.new.pages ≡ self.old.pages }
         ensures room { OnOk result (self.new.room ≡ true) }
@@ -94,9 +93,9 @@ impl PageTable {
         chunk.reserve(1)
     }
 
-    /// Puts a page in at its id, which is the next one.
+    /// Adds a page at its id, which is the next one.
     ///
-    /// It fails only where an allocation failed, and then the page comes back, and the table has the pages that it had.
+    /// It fails only if an allocation failed. Then it returns the page, and the table has the pages that it had.
     pub fn insert(&mut self, pid: PageId, page: Page) -> Result<(), (Page, AllocError)>
         requires next { pid ≡ length self.old.pages }
         requires few { pid < most_pages }
@@ -112,7 +111,7 @@ impl PageTable {
         Ok(())
     }
 
-    /// The page at an id, if there is one. Any id can be asked for, and it takes no memory.
+    /// Returns the page at an id, if there is one. Any id can be asked for, and the call takes no memory.
     pub fn get(&self, pid: PageId) -> Option<&Page>
         ensures { MatchOption result (slice_get self.now.pages pid ≡ None)
             (λ page. slice_get self.now.pages pid ≡ Some page.now) }
@@ -125,7 +124,7 @@ impl PageTable {
         chunks.get(left)?.get(right)
     }
 
-    /// The page at an id, to be changed in its place.
+    /// Returns a mutable reference to the page at an id.
     pub fn get_mut(&mut self, pid: PageId) -> &mut Page
         requires { pid < length self.old.pages }
         ensures* lends { sem 𝓛 (LendsPage self.entry pid result) }
@@ -159,7 +158,7 @@ impl PageTable {
     }
 }
 
-/// Which chunk keeps the page of an id, and where in it: `id >> 18` and `id & (2 ^ 18 - 1)`.
+/// Returns which chunk holds the page of an id, and at which place in it: `id >> 18` and `id & (2 ^ 18 - 1)`.
 pub fn split_fanout(id: PageId) -> (usize, usize)
     requires { id < most_pages }
     ensures left { result.0 ≡ id / chunk_length }

@@ -1,6 +1,6 @@
-//! The writing of a page's messages to the log.
+//! Writing a page's messages to the log.
 
-ghost use Rattle.std.specs.Prelude.{◌≡◌, ◌<◌, ◌≤◌, false, true, length};
+ghost use Rattle.std.specs.Prelude.{◌≡◌, ◌<◌, ◌≤◌, true, length};
 ghost use Rattle.sled_log.specs.Calls.{can_append};
 ghost use Rattle.sled_log.specs.Contents as contents;
 ghost use Rattle.sled_log.specs.Messages.{effect_of_entry, message};
@@ -10,9 +10,10 @@ ghost use Rattle.sled_node.specs.Meta.{IsRootMap};
 ghost use Rattle.sled_node.specs.Node.{empty_leaf};
 ghost use Rattle.sled_node.specs.Payloads.Links.{CanWriteLink};
 ghost use Rattle.sled_pagecache.specs.Inside.PageWrites.{CanPut, WritesMessage, Wrote, content_of};
+ghost use Rattle.sled_pagecache.specs.Inside.StickyLog.{IsReady};
 
-use crate::pagecache::table::held::{EMPTY_LEAF, HeldNode};
-use crate::pagecache::table::page::{CacheInfo, Kept};
+use crate::pagecache::table::boxed_node::{BoxedNode, EMPTY_LEAF};
+use crate::pagecache::table::page_entry::{CacheInfo, PageContent};
 use crate::pagecache::write::sticky_log::StickyLog;
 use sled_base::{MessageKind, PageId, Refusal, Serialize};
 use sled_log::Log;
@@ -27,13 +28,12 @@ pub(crate) fn write_node<L: Log>(
     alloc: Global,
     sticky_log: &mut StickyLog<L>,
     pid: PageId,
-    node: &HeldNode,
+    node: &BoxedNode,
     size: u64,
     stamp: u64,
 ) -> Result<CacheInfo, Refusal>
     requires sized { size ≡ length (message_of (contents.Put (contents.Node node.now))).payload }
-    requires ready { sticky_log.old.fault ≡ false }
-    requires usable { (L.state sticky_log.old.log).usable ≡ true }
+    requires ready { IsReady L.Log sticky_log.old }
     requires can { L.tells
         → can_append effect_of_entry (now effect_of_entry (L.state sticky_log.old.log)) pid
         (message_of (contents.Put (contents.Node node.now))).kind ≡ true }
@@ -62,8 +62,7 @@ pub(crate) fn write_empty_leaf<L: Log>(
     pid: PageId,
     stamp: u64,
 ) -> Result<CacheInfo, Refusal>
-    requires ready { sticky_log.old.fault ≡ false }
-    requires usable { (L.state sticky_log.old.log).usable ≡ true }
+    requires ready { IsReady L.Log sticky_log.old }
     requires there { L.tells → pid ≤ length (now effect_of_entry (L.state sticky_log.old.log)) }
     ensures { Wrote L.Log sticky_log.old sticky_log.new pid
         (contents.Put (contents.Node empty_leaf)) stamp result }
@@ -82,8 +81,7 @@ pub(crate) fn write_link<L: Log>(
 ) -> Result<CacheInfo, Refusal>
     requires short { CanWriteLink link.now }
     requires sized { size ≡ length (message_of (contents.Link link.now)).payload }
-    requires ready { sticky_log.old.fault ≡ false }
-    requires usable { (L.state sticky_log.old.log).usable ≡ true }
+    requires ready { IsReady L.Log sticky_log.old }
     requires can { L.tells → can_append effect_of_entry (now effect_of_entry
         (L.state sticky_log.old.log)) pid (message_of (contents.Link link.now)).kind ≡ true }
     ensures { Wrote L.Log sticky_log.old sticky_log.new pid (contents.Link link.now) stamp result }
@@ -110,8 +108,7 @@ pub(crate) fn write_roots<L: Log>(
 ) -> Result<CacheInfo, Refusal>
     requires can_write { IsRootMap roots.now }
     requires sized { size ≡ length (message_of (contents.Put (contents.Roots roots.now))).payload }
-    requires ready { sticky_log.old.fault ≡ false }
-    requires usable { (L.state sticky_log.old.log).usable ≡ true }
+    requires ready { IsReady L.Log sticky_log.old }
     requires there { L.tells → pid ≤ length (now effect_of_entry (L.state sticky_log.old.log)) }
     ensures { Wrote L.Log sticky_log.old sticky_log.new pid
         (contents.Put (contents.Roots roots.now)) stamp result }
@@ -135,8 +132,7 @@ pub(crate) fn write_counter<L: Log>(
     n: u64,
     stamp: u64,
 ) -> Result<CacheInfo, Refusal>
-    requires ready { sticky_log.old.fault ≡ false }
-    requires usable { (L.state sticky_log.old.log).usable ≡ true }
+    requires ready { IsReady L.Log sticky_log.old }
     requires there { L.tells → pid ≤ length (now effect_of_entry (L.state sticky_log.old.log)) }
     ensures { Wrote L.Log sticky_log.old sticky_log.new pid (contents.Put (contents.Counter n))
         stamp result }
@@ -159,8 +155,7 @@ fn write_free<L: Log>(
     pid: PageId,
     stamp: u64,
 ) -> Result<CacheInfo, Refusal>
-    requires ready { sticky_log.old.fault ≡ false }
-    requires usable { (L.state sticky_log.old.log).usable ≡ true }
+    requires ready { IsReady L.Log sticky_log.old }
     requires there { L.tells → pid < length (now effect_of_entry (L.state sticky_log.old.log)) }
     ensures { Wrote L.Log sticky_log.old sticky_log.new pid (contents.Put contents.Free) stamp
         result }
@@ -169,28 +164,34 @@ fn write_free<L: Log>(
 }
 
 // Writes what is put on a page, in so many bytes, and answers how it is kept, at that stamp.
-pub(crate) fn write_kept<L: Log>(
+pub(crate) fn write_content<L: Log>(
     alloc: Global,
     sticky_log: &mut StickyLog<L>,
     pid: PageId,
-    kept: &Kept,
+    kept: &PageContent,
     size: u64,
     stamp: u64,
 ) -> Result<CacheInfo, Refusal>
     requires can_write { CanPut kept.now }
     requires sized { size ≡ length (message_of (contents.Put (content_of kept.now))).payload }
-    requires ready { sticky_log.old.fault ≡ false }
-    requires usable { (L.state sticky_log.old.log).usable ≡ true }
+    requires ready { IsReady L.Log sticky_log.old }
     requires there { L.tells → pid < length (now effect_of_entry (L.state sticky_log.old.log)) }
     ensures { Wrote L.Log sticky_log.old sticky_log.new pid (contents.Put (content_of kept.now))
         stamp result }
 {
     match kept {
-        Kept::Node(node) => write_node(alloc, sticky_log, pid, node, size, stamp),
-        Kept::Roots(roots) => write_roots(alloc, sticky_log, pid, roots.as_meta(), size, stamp),
-        Kept::Counter(n) => write_counter(alloc, sticky_log, pid, *n, stamp),
-        Kept::Free => write_free(alloc, sticky_log, pid, stamp),
-        Kept::Away => unreachable!(),
+        PageContent::Node(node) => write_node(alloc, sticky_log, pid, node, size, stamp),
+        PageContent::Roots(roots) => write_roots(
+            alloc,
+            sticky_log,
+            pid,
+            roots.as_meta(),
+            size,
+            stamp,
+        ),
+        PageContent::Counter(n) => write_counter(alloc, sticky_log, pid, *n, stamp),
+        PageContent::Free => write_free(alloc, sticky_log, pid, stamp),
+        PageContent::OnLog => unreachable!(),
     }
 }
 
@@ -206,8 +207,7 @@ fn write<L: Log, T: Serialize>(
 ) -> Result<CacheInfo, Refusal>
     requires can_write { T.can_write value.now }
     requires sized { size ≡ length (T.written value.now) }
-    requires ready { sticky_log.old.fault ≡ false }
-    requires usable { (L.state sticky_log.old.log).usable ≡ true }
+    requires ready { IsReady L.Log sticky_log.old }
     requires can { L.tells → can_append effect_of_entry
         (now effect_of_entry (L.state sticky_log.old.log)) pid kind ≡ true }
     ensures { WritesMessage L.Log sticky_log.old sticky_log.new pid
@@ -245,8 +245,7 @@ pub(crate) fn write_payload<L: Log>(
     payload: &[u8],
     stamp: u64,
 ) -> Result<CacheInfo, Refusal>
-    requires ready { sticky_log.old.fault ≡ false }
-    requires usable { (L.state sticky_log.old.log).usable ≡ true }
+    requires ready { IsReady L.Log sticky_log.old }
     requires can { L.tells → can_append effect_of_entry
         (now effect_of_entry (L.state sticky_log.old.log)) pid kind ≡ true }
     ensures { WritesMessage L.Log sticky_log.old sticky_log.new pid (message kind payload.now) stamp

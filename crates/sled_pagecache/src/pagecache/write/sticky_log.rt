@@ -1,4 +1,4 @@
-//! The log of a cache, and the write fault that is kept of it.
+//! The log of a cache, with its sticky write error.
 
 ghost use Rattle.std.specs.Prelude.{◌≡◌, ℕ, ◌+◌, ◌<◌, ◌||◌, [], ◌∷◌, false, true, length, slice_index_or, IfOk, IfErr, OnOk, OnErr};
 ghost use Rattle.std.specs.List.{All, AllByRecursion, AllZip, Any};
@@ -15,12 +15,12 @@ ghost use Rattle.sled_log.specs.Moves.{HasBlob, message_at};
 ghost use Rattle.sled_log.specs.Pages.{IsAt, IsPageState, IsReadAs, IsSized};
 ghost use Rattle.sled_log.specs.Payloads.{payload_in};
 ghost use Rattle.sled_log.specs.LogState.{now};
-ghost use Rattle.sled_pagecache.specs.Inside.StickyLog.{Went, IsCaused, IsOfLog, begun_by, cache_answer, mark_of};
+ghost use Rattle.sled_pagecache.specs.Inside.StickyLog.{Went, IsCaused, IsOfLog, begun_by, cache_answer, mark_of, IsReady};
 
 use sled_base::{BlobPointer, DiskPtr, LogOffset, Lsn, MessageKind, PageId, PageState, Refusal};
 use sled_log::{Log, LogError, Payload};
 
-/// The log of a cache, whether a batch is open, and whether a write fault was met: then the log is not called any more.
+/// The log of a cache, whether a batch is open, and whether a write error was met. After a write error the log is never called again.
 #[derive(Drop)]
 pub(crate) struct StickyLog<L> {
     pub(crate) log: L,
@@ -43,8 +43,7 @@ impl<L: Log> StickyLog<L> {
         pid: PageId,
         payload: &[u8],
     ) -> Result<(Lsn, DiskPtr, u64), Refusal>
-        requires ready { self.old.fault ≡ false }
-        requires usable { (L.state self.old.log).usable ≡ true }
+        requires ready { IsReady L.Log self.old }
         requires can { L.tells → can_append effect_of_entry
             (now effect_of_entry (L.state self.old.log)) pid kind ≡ true }
         ensures went { Went L.Log self.old self.new
@@ -73,8 +72,7 @@ impl<L: Log> StickyLog<L> {
         pid: PageId,
         blob: BlobPointer,
     ) -> Result<(Lsn, DiskPtr, u64), Refusal>
-        requires ready { self.old.fault ≡ false }
-        requires usable { (L.state self.old.log).usable ≡ true }
+        requires ready { IsReady L.Log self.old }
         requires holds { L.tells → HasBlob (now effect_of_entry (L.state self.old.log)) pid blob }
         ensures went { Went L.Log self.old self.new (begun_by result
             (Change pid (message_at (now effect_of_entry (L.state self.old.log)) pid) ∷ [])) }
@@ -99,8 +97,7 @@ impl<L: Log> StickyLog<L> {
 
     // Names the message that is due to be moved, by its page and its place, if one is.
     pub(crate) fn to_move(&mut self) -> Option<(PageId, LogOffset)>
-        requires ready { self.old.fault ≡ false }
-        requires usable { (L.state self.old.log).usable ≡ true }
+        requires ready { IsReady L.Log self.old }
         ensures named { result ≡ L.due self.old.log }
         ensures went { Went L.Log self.old self.new [] }
         ensures fault { self.new.fault ≡ false }
@@ -120,8 +117,7 @@ impl<L: Log> StickyLog<L> {
         pointer: DiskPtr,
         space: &mut [u8],
     ) -> Result<(MessageKind, Payload), Refusal>
-        requires ready { self.old.fault ≡ false }
-        requires usable { (L.state self.old.log).usable ≡ true }
+        requires ready { IsReady L.Log self.old }
         requires known { L.tells → Any (IsAt lsn pointer)
             (slice_index_or (now effect_of_entry (L.state self.old.log)) pid []) }
         ensures went { Went L.Log self.old self.new [] }
@@ -141,8 +137,7 @@ impl<L: Log> StickyLog<L> {
 
     // Makes all that is pending stable, and answers how many bytes that wrote. It is refused only for a write fault.
     pub(crate) fn make_stable(&mut self) -> Result<usize, Refusal>
-        requires ready { self.old.fault ≡ false }
-        requires usable { (L.state self.old.log).usable ≡ true }
+        requires ready { IsReady L.Log self.old }
         requires closed { is_open (L.state self.old.log).pending ≡ false }
         ensures went { Went L.Log self.old self.new [] }
         ensures cause { IsCaused L.Log self.old self.new ⊥ result }
@@ -160,8 +155,7 @@ impl<L: Log> StickyLog<L> {
 
     // Opens a batch in the log.
     pub(crate) fn pin(&mut self) -> Result<(), Refusal>
-        requires ready { self.old.fault ≡ false }
-        requires usable { (L.state self.old.log).usable ≡ true }
+        requires ready { IsReady L.Log self.old }
         requires closed { is_open (L.state self.old.log).pending ≡ false }
         ensures went { Went L.Log self.old self.new (begun_by result (Pin ∷ [])) }
         ensures cause { IsCaused L.Log self.old self.new (L.is_full_for_batch self.old.log) result }
@@ -176,8 +170,7 @@ impl<L: Log> StickyLog<L> {
 
     // Closes the batch in the log. It is refused only for a write fault.
     pub(crate) fn close(&mut self, closing: Closing) -> Result<(), Refusal>
-        requires ready { self.old.fault ≡ false }
-        requires usable { (L.state self.old.log).usable ≡ true }
+        requires ready { IsReady L.Log self.old }
         requires opened { is_open (L.state self.old.log).pending ≡ true }
         ensures went { Went L.Log self.old self.new (begun_by result (mark_of closing ∷ [])) }
         ensures cause { IsCaused L.Log self.old self.new ⊥ result }
@@ -200,8 +193,7 @@ impl<L: Log> StickyLog<L> {
 
     // The pages, by id, with the places of their chains.
     pub(crate) fn recover(&mut self) -> Result<Vec<PageState>, Refusal>
-        requires ready { self.old.fault ≡ false }
-        requires usable { (L.state self.old.log).usable ≡ true }
+        requires ready { IsReady L.Log self.old }
         ensures went { Went L.Log self.old self.new [] }
         ensures cause { IsCaused L.Log self.old self.new ⊥ result }
         ensures sound { L.tells → IfErr result IsOfLog }

@@ -1,10 +1,8 @@
 // What one call answers as a number: a page, a stamp, an id, a length, or why there is none.
 
-ghost use Rattle.std.specs.Prelude.{◌≡◌, false};
+ghost use Rattle.std.specs.Prelude.{◌≡◌};
 
-use super::Call::{
-    Adds, Draws, Finds, Flushes, Frees, Gets, Links, Opens, Replaces, Swaps, Together,
-};
+use super::Call::{Adds, Draws, Finds, Frees, Gets, Links, Opens, Replaces, Swaps, Together};
 use super::{Call, Disked};
 use sled_pagecache::sled_base::{Device, Refusal};
 use sled_pagecache::{Error, IVec, Link, Log, Node, PageCache, PageId, PageView, open_tree};

@@ -3,7 +3,7 @@ use Rattle.std.proofs.Common.{ap}
 use Rattle.sled_log.specs.LogState.{LogState}
 use Rattle.sled_log.specs.Messages.{Entry}
 use Rattle.sled_log.specs.contracts.memory.calls.MemLogLog.TheImpl as mem
-use Rattle.sled_pagecache.proofs.Crashing.{starts-flushed}
+use Rattle.sled_pagecache.proofs.Crash.FlushedCaches.{starts-flushed}
 use Rattle.sled_shared_tests.proofs.crews.new_cache.Goals as goal
 
 pub returns-in-Ok-clause-known : goal.returns-in-Ok-clause-known

@@ -1,4 +1,4 @@
-use Rattle.std.proofs.Common.{◌≡◌, Ok, Some}
+use Rattle.std.proofs.Common.{Ok, Some}
 use Rattle.sled_tree.specs.Changed.{Reads}
 use Rattle.sled_tree.specs.Dropping.{IsMapOf}
 use Rattle.sled_tree.specs.Ordered.{IsPieceOf}

@@ -1,7 +1,12 @@
-use Rattle.std.proofs.Common.{◌≡◌, ◌≤◌, length, take}
-use Rattle.sled_base.specs.Strings.{strings_in, Keeps}
+use Rattle.std.proofs.Common.{◌≡◌, ◌≤◌, vec_len}
+use Rattle.std.specs.Vec.{vec_capacity}
+use Rattle.sled_base.proofs.StringEdits.{AreRead}
 use Rattle.sled_base.proofs.strings.Strings.read_plain.Given as goal
 
--- the strings so far, and where the last one ends
+-- as many strings were read as there were turns
 abbrev pub invariant-loop : goal.invariant-loop
-invariant-loop l = (l.at ≤ length l.input) × (length l.ends.items ≡ l.counter) × Keeps (strings_in (take l.at l.input) l.ends.items) (take l.at l.input) l.ends.items
+invariant-loop l = record {
+  many : vec_len l.ends ≡ l.counter;
+  room : l.count ≤ vec_capacity l.ends;
+  read : AreRead l.input l.rest l.ends.items;
+}

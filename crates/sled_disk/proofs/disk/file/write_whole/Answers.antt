@@ -1,6 +1,6 @@
 use Rattle.std.proofs.Common.{rules, ap, ◌∙◌, ◌+◌, take, List, ℕ}
 use Rattle.sled_disk.specs.Disk.{overlaid}
-use Rattle.sled_disk.proofs.ShortWrites.{behind, elapses-then, follows-piece, overlaid-piece}
+use Rattle.sled_disk.proofs.Disks.ShortWrites.{behind, elapses-then, follows-piece, overlaid-piece}
 use Rattle.sled_disk.proofs.disk.file.write_whole.Goals as goal
 
 pub loop-done-preserved : goal.loop-done-preserved

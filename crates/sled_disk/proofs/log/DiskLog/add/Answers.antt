@@ -6,21 +6,21 @@ use Rattle.sled_base.specs.Kinds.{log_kind_of, byte_of}
 use Rattle.sled_base.specs.declared.kinds.MessageKind.{MessageKind}
 use Rattle.sled_log.specs.Calls.{can_append}
 use Rattle.std.specs.Global.{Vec}
-use Rattle.sled_disk.specs.declared.head.Head.{Head}
+use Rattle.sled_disk.specs.declared.recovery.head.Head.{Head}
 use Rattle.sled_disk.specs.Pending.{open_behind, is_own}
 use Rattle.sled_disk.specs.Format.{Record, is_changing}
-use Rattle.sled_disk.specs.Counting.{IsLooked}
+use Rattle.sled_disk.specs.CountedMessages.{IsLooked}
 use Rattle.sled_disk.specs.Reading.{chains_of, step_head, effect_of_head}
-use Rattle.sled_disk.specs.Standing.{Stands, records_behind}
+use Rattle.sled_disk.specs.LogContents.{Stands, records_behind}
 use Rattle.sled_disk.specs.StepLaws.{changing}
-use Rattle.sled_disk.specs.Waiting.{place_of, batch_of}
-use Rattle.sled_disk.proofs.Adding.{append-taken, change-stands, made-none, same-error}
-use Rattle.sled_disk.proofs.Written.{open-by-batch}
-use Rattle.sled_disk.proofs.Kept.{step-heads, step-ends}
+use Rattle.sled_disk.specs.PendingFrame.{place_of, batch_of}
+use Rattle.sled_disk.proofs.Frames.RecordAppend.{append-taken, change-stands, made-none, same-error}
+use Rattle.sled_disk.proofs.Frames.WrittenFrame.{open-by-batch}
+use Rattle.sled_disk.proofs.Chains.LogHeads.{step-heads, step-ends}
 use Rattle.sled_disk.specs.Cursor.{IsAmong}
-use Rattle.sled_disk.proofs.Unnamed.{among-more, counted-places}
-use Rattle.sled_disk.proofs.Looked.{looked-more}
-use Rattle.sled_disk.proofs.Waiting.{place-is}
+use Rattle.sled_disk.proofs.Moves.MovesAfterCalls.{among-more, counted-places}
+use Rattle.sled_disk.proofs.Moves.SearchProgress.{looked-more}
+use Rattle.sled_disk.proofs.Frames.PendingBuffer.{place-is}
 use Rattle.sled_disk.proofs.log.DiskLog.add.Goals as goal
 
 pub returns-in_err-take_head-clause-sound : goal.returns-in_err-take_head-clause-sound

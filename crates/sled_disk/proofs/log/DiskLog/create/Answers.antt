@@ -2,8 +2,8 @@ use Rattle.std.proofs.Common.{◌≡◌, ◌∷◌, [], ◌++◌, ℕ, List, dro
 use Rattle.sled_disk.specs.Disk.{overlaid}
 use Rattle.std.specs.Prelude.{None}
 use Rattle.sled_disk.specs.Format.{opening, frames_turns, Describes}
-use Rattle.sled_disk.proofs.Created.{with_room, with_write, with_sync}
-use Rattle.sled_disk.proofs.Written.{on_ok_map}
+use Rattle.sled_disk.proofs.Frames.EmptyFile.{with_room, with_write, with_sync}
+use Rattle.sled_disk.proofs.Frames.WrittenFrame.{on_ok_map}
 use Rattle.sled_disk.proofs.log.DiskLog.create.Goals as goal
 
 created : (old new : List ℕ) → new ≡ overlaid old 0 (opening ++ 0 ∷ []) → Describes new []

@@ -1,5 +1,5 @@
 use Rattle.std.proofs.Common.{◌==◌, ◌∙◌, length, ap, sym}
-use Rattle.sled_disk.proofs.NoPages.{held-none, none-held, none-of, of-none}
+use Rattle.sled_disk.proofs.LogCalls.EmptyLog.{held-none, none-held, none-of, of-none}
 use Rattle.sled_disk.proofs.log.DiskLog.is_empty.Goals as goal
 
 pub returns-clause-pages : goal.returns-clause-pages

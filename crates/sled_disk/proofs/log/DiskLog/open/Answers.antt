@@ -1,7 +1,7 @@
 use Rattle.std.proofs.Common.{List, ℕ, Err, sym, ◌∙◌, ap, subst}
 use Rattle.sled_disk.specs.Format.{Describes}
-use Rattle.sled_disk.proofs.Meaning.{rests-and-mean}
-use Rattle.sled_disk.proofs.Still.{still-then, still-read, rests-still}
+use Rattle.sled_disk.proofs.LogCalls.UnchangedMeaning.{rests-and-mean}
+use Rattle.sled_disk.proofs.Disks.UnchangedCrashStates.{still-then, still-read, rests-still}
 use Rattle.sled_disk.proofs.log.DiskLog.open.Goals as goal
 
 pub returns-in-Ok-open_with-clause-any_moment : goal.returns-in-Ok-open_with-clause-any_moment

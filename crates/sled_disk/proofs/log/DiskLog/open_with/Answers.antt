@@ -6,26 +6,26 @@ use Rattle.sled_log.specs.Chains.{chains_after}
 use Rattle.sled_log.specs.Events.{Event}
 use Rattle.sled_log.specs.LogState.{LogState}
 use Rattle.sled_log.specs.Messages.{Entry, effect_of_entry}
-use Rattle.sled_disk.specs.declared.head.Head.{Head}
-use Rattle.sled_disk.specs.declared.next_frame.NextFrame.{NextFrame}
+use Rattle.sled_disk.specs.declared.recovery.head.Head.{Head}
+use Rattle.sled_disk.specs.declared.format.next_frame.NextFrame.{NextFrame}
 use Rattle.sled_disk.specs.declared.reader.Reader.{Reader}
 use Rattle.sled_disk.specs.Abandoned.{IsReadTo, place_of_begun, room_behind}
 use Rattle.sled_disk.specs.AbandonedLaws.{file-described}
 use Rattle.sled_disk.specs.Format.{Record}
-use Rattle.sled_disk.specs.GoesOn.{begun_by, read_by}
+use Rattle.sled_disk.specs.ReaderState.{begun_by, read_by}
 use Rattle.sled_disk.specs.Names.{messages_in}
-use Rattle.sled_disk.specs.Opened.{AreRead, AllEndBy}
+use Rattle.sled_disk.specs.RecoveredHeads.{AreRead, AllEndBy}
 use Rattle.sled_disk.specs.Reading.{Read, chains_of}
-use Rattle.sled_disk.specs.ReadyLaws.{none-behind}
-use Rattle.sled_disk.specs.Standing.{Stands, events_in, records_behind}
-use Rattle.sled_disk.specs.StandingLaws.{file-read}
-use Rattle.sled_disk.specs.Waiting.{pending_of, place_of, batch_of}
-use Rattle.sled_disk.proofs.Kept.{all-later}
-use Rattle.sled_disk.proofs.Looked.{looked-first}
-use Rattle.sled_disk.proofs.Meaning.{mean-after}
-use Rattle.sled_disk.proofs.Naming.{counted-all, frames-end}
-use Rattle.sled_disk.proofs.Unnamed.{among-first, waiting-all}
-use Rattle.sled_disk.proofs.Written.{none-waits, closed-batch}
+use Rattle.sled_disk.specs.RecoveredLogLaws.{none-behind}
+use Rattle.sled_disk.specs.LogContents.{Stands, events_in, records_behind}
+use Rattle.sled_disk.specs.LogContentsLaws.{file-read}
+use Rattle.sled_disk.specs.PendingFrame.{pending_of, place_of, batch_of}
+use Rattle.sled_disk.proofs.Chains.LogHeads.{all-later}
+use Rattle.sled_disk.proofs.Moves.SearchProgress.{looked-first}
+use Rattle.sled_disk.proofs.LogCalls.UnchangedMeaning.{mean-after}
+use Rattle.sled_disk.proofs.Moves.SearchSteps.{counted-all, frames-end}
+use Rattle.sled_disk.proofs.Moves.MovesAfterCalls.{among-first, waiting-all}
+use Rattle.sled_disk.proofs.Frames.WrittenFrame.{none-waits, closed-batch}
 use Rattle.sled_disk.proofs.log.DiskLog.open_with.Goals as goal
 
 begun-place : (begun : Option ℕ) (inside : List (ℕ × Head)) → place_of_begun (begun_by begun inside) ≡ begun

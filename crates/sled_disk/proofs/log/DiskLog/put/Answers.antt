@@ -1,13 +1,13 @@
 use Rattle.std.proofs.Common.{arith, ◌≡◌, ◌++◌, ◌∷◌, ◌+◌, ℕ, ℤ, pos, List, [], length, refl, sym, ◌∙◌, ap}
 use Rattle.sled_base.specs.declared.types.DiskPtr.{DiskPtr}
 use Rattle.sled_base.specs.declared.types.DiskPtr.TheVariants.{Inline}
-use Rattle.sled_disk.specs.declared.names.Names.{Names}
-use Rattle.sled_disk.specs.declared.next_frame.NextFrame.{NextFrame}
-use Rattle.sled_disk.proofs.Naming.{IsKept, within}
-use Rattle.sled_disk.proofs.Unnamed.{moves-more, messages-changed}
+use Rattle.sled_disk.specs.declared.log.names.Names.{Names}
+use Rattle.sled_disk.specs.declared.format.next_frame.NextFrame.{NextFrame}
+use Rattle.sled_disk.proofs.Moves.SearchSteps.{IsKept, within}
+use Rattle.sled_disk.proofs.Moves.MovesAfterCalls.{moves-more, messages-changed}
 use Rattle.sled_disk.specs.Pending.{pending_in, room_after}
-use Rattle.sled_disk.specs.Standing.{records_behind, is_begun}
-use Rattle.sled_disk.specs.Waiting.{pending_of, place_of, said_of, state_of, batch_of, progress_of, events_of, events_with}
+use Rattle.sled_disk.specs.LogContents.{records_behind, is_begun}
+use Rattle.sled_disk.specs.PendingFrame.{pending_of, place_of, said_of, state_of, batch_of, progress_of, events_of, events_with}
 use Rattle.std.specs.Prelude.{Err}
 use Rattle.std.proofs.lemmas.Result.{err_from_is_err_and}
 use Rattle.sled_log.specs.Events.{Change}
@@ -15,11 +15,11 @@ use Rattle.sled_log.specs.LogState.{now}
 use Rattle.sled_log.specs.Messages.{message, placed_entry, effect_of_entry}
 use Rattle.sled_log.specs.declared.log.LogError.TheVariants.{WriteFault}
 use Rattle.sled_disk.specs.Reading.{chains_of}
-use Rattle.sled_disk.proofs.Adding.{can-heads}
-use Rattle.sled_disk.proofs.Calling.{called-refused, called-waits, called-wrote, called-fault, read-described, written-described}
-use Rattle.sled_disk.proofs.Sized.{stands-sized, waits-small}
-use Rattle.sled_disk.specs.ReadyLaws.{none-behind}
-use Rattle.sled_disk.proofs.Written.{change-waits, settles-then, begins-now, room-small, flag-of, begins-after, size-zero, size-some, events-added}
+use Rattle.sled_disk.proofs.Frames.RecordAppend.{can-heads}
+use Rattle.sled_disk.proofs.LogCalls.CallOutcomes.{called-refused, called-waits, called-wrote, called-fault, read-described, written-described}
+use Rattle.sled_disk.proofs.Chains.ChainSizes.{stands-sized, waits-small}
+use Rattle.sled_disk.specs.RecoveredLogLaws.{none-behind}
+use Rattle.sled_disk.proofs.Frames.WrittenFrame.{change-waits, settles-then, begins-now, room-small, flag-of, begins-after, size-zero, size-some, events-added}
 use Rattle.sled_disk.proofs.log.DiskLog.put.Goals as goal
 
 said-is : (next : NextFrame) (payload : List ℕ) (place : ℕ) (said : ℤ × DiskPtr × ℕ) → place ≡ place_of next → said ≡ (pos place, Inline place, 17 + length payload) → said ≡ said_of next payload

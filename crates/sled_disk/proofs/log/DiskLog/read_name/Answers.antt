@@ -2,9 +2,9 @@ use Rattle.std.proofs.Common.{rules, ◌≡◌, ⊎_elim, inl, inr, refl, sym, �
 use Rattle.std.specs.Prelude.{ℕ, List}
 use Rattle.sled_log.specs.Moves.{Moves}
 use Rattle.sled_disk.specs.Names.{moves_in}
-use Rattle.sled_disk.proofs.Calling.{rests-same}
-use Rattle.sled_disk.proofs.Naming.{grown-later}
-use Rattle.sled_disk.proofs.Unnamed.{steps-none, steps-more}
+use Rattle.sled_disk.proofs.LogCalls.CallOutcomes.{rests-same}
+use Rattle.sled_disk.proofs.Moves.SearchSteps.{grown-later}
+use Rattle.sled_disk.proofs.Moves.MovesAfterCalls.{steps-none, steps-more}
 use Rattle.sled_disk.proofs.log.DiskLog.read_name.Goals as goal
 
 pub loop-init : goal.loop-init

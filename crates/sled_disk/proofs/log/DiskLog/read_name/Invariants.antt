@@ -1,6 +1,6 @@
 use Rattle.std.proofs.Common.{◌≡◌, ◌≤◌, ◌+◌, ◌*◌, None, true}
 use Rattle.sled_disk.specs.Names.{moves_in, AreSteps}
-use Rattle.sled_disk.specs.OnDisk.{Rests}
+use Rattle.sled_disk.specs.DiskReads.{Rests}
 use Rattle.sled_disk.proofs.log.DiskLog.read_name.Given as goal
 
 -- no message was read, and so many steps were made

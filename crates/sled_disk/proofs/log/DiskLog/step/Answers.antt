@@ -2,15 +2,15 @@ use Rattle.std.proofs.Common.{◌≡◌, ◌+◌, ◌≤◌, ◌<◌, ◌^◌, �
 use Rattle.std.specs.Prelude.{Err}
 use Rattle.std.proofs.lemmas.Bool.{cases_lt}
 use Rattle.sled_log.specs.declared.log.LogError.TheVariants.{ReadFault, Corruption}
-use Rattle.sled_disk.specs.declared.names.Names.{Names}
-use Rattle.sled_disk.specs.declared.next_frame.NextFrame.{NextFrame}
-use Rattle.sled_disk.specs.Counting.{IsLooked}
+use Rattle.sled_disk.specs.declared.log.names.Names.{Names}
+use Rattle.sled_disk.specs.declared.format.next_frame.NextFrame.{NextFrame}
+use Rattle.sled_disk.specs.CountedMessages.{IsLooked}
 use Rattle.sled_disk.specs.Cursor.{IsAmong}
 use Rattle.sled_disk.specs.Names.{moves_in, looks_at, frame_of, behind_record, IsStep}
 use Rattle.sled_disk.specs.Reading.{chains_of}
-use Rattle.sled_disk.specs.Standing.{records_behind}
-use Rattle.sled_disk.specs.Waiting.{batch_of}
-use Rattle.sled_disk.proofs.Naming.{IsKept, IsEnd, IsHead, Steps, small, durable-end, passed, enough, record-steps, gate-steps, end-keeps, none-waits, looked-at, unread, grown-later}
+use Rattle.sled_disk.specs.LogContents.{records_behind}
+use Rattle.sled_disk.specs.PendingFrame.{batch_of}
+use Rattle.sled_disk.proofs.Moves.SearchSteps.{IsKept, IsEnd, IsHead, Steps, small, durable-end, passed, enough, record-steps, gate-steps, end-keeps, none-waits, looked-at, unread, grown-later}
 use Rattle.sled_disk.proofs.log.DiskLog.step.Goals as goal
 
 -- the end of what is pending is a number

@@ -1,21 +1,21 @@
 use Rattle.std.proofs.Common.{◌≡◌, ℕ, ◌+◌, ◌<◌, Bool, true, List, length, sym, ◌∙◌, ap, subst, arith}
 use Rattle.std.specs.Prelude.{Option}
-use Rattle.sled_disk.specs.declared.head.Head.{Head}
-use Rattle.sled_disk.specs.declared.next_frame.NextFrame.{NextFrame}
+use Rattle.sled_disk.specs.declared.recovery.head.Head.{Head}
+use Rattle.sled_disk.specs.declared.format.next_frame.NextFrame.{NextFrame}
 use Rattle.sled_disk.specs.Crash.{IsShutOrOpened, IsWhole}
 use Rattle.sled_disk.specs.Format.{IsBytes}
 use Rattle.sled_disk.specs.Pending.{frame_in}
 use Rattle.sled_disk.specs.Reading.{chains_of}
-use Rattle.sled_disk.specs.Ready.{IsEither}
-use Rattle.sled_disk.specs.Standing.{Stands, records_behind, events_in}
-use Rattle.sled_disk.specs.Waiting.{place_of, batch_of, events_of}
-use Rattle.sled_disk.proofs.Kept.{all-later}
-use Rattle.sled_disk.specs.Counting.{counting}
-use Rattle.sled_disk.specs.ReadyLaws.{none-behind}
-use Rattle.sled_disk.proofs.Looked.{looked-written, placed-written}
-use Rattle.sled_disk.proofs.Naming.{counted-all}
-use Rattle.sled_disk.proofs.Unnamed.{among-written}
-use Rattle.sled_disk.proofs.Written.{on_ok_by, written-frames, on_ok, on_ok_map, written-stands, written-says, before-or-after, closes, left-so, open-by-batch, open-is, room-small}
+use Rattle.sled_disk.specs.RecoveredLog.{IsEither}
+use Rattle.sled_disk.specs.LogContents.{Stands, records_behind, events_in}
+use Rattle.sled_disk.specs.PendingFrame.{place_of, batch_of, events_of}
+use Rattle.sled_disk.proofs.Chains.LogHeads.{all-later}
+use Rattle.sled_disk.specs.CountedMessages.{counted_messages}
+use Rattle.sled_disk.specs.RecoveredLogLaws.{none-behind}
+use Rattle.sled_disk.proofs.Moves.SearchProgress.{looked-written, placed-written}
+use Rattle.sled_disk.proofs.Moves.SearchSteps.{counted-all}
+use Rattle.sled_disk.proofs.Moves.MovesAfterCalls.{among-written}
+use Rattle.sled_disk.proofs.Frames.WrittenFrame.{on_ok_by, written-frames, on_ok, on_ok_map, written-stands, written-says, before-or-after, closes, left-so, open-by-batch, open-is, room-small}
 use Rattle.sled_disk.proofs.log.DiskLog.write_next.Goals as goal
 
 pub write-wrote-requires-clause-closed : goal.write-wrote-requires-clause-closed
@@ -109,5 +109,5 @@ returns-clause-messages g c = λ told.
     sym (counted-all after next.gate next.spilled next.buffer.items (batch_of next) (chains_of log.pages.items) (λ i. g.met.D.Disk.are_bytes c.write-wrote.new.disk i told)
     (stands-then seen after log.next next (chains_of log.pages.items) (λ i. g.met.D.Disk.are_bytes log.disk i told) (log.stands told c.requires.usable) c.requires.some (on_ok c.write-wrote.result c.write-wrote.ensures.gate ok) c.write-wrote.ensures.buffer c.write-wrote.ensures.batch c.write-wrote.ensures.batch_place
     c.write-wrote.ensures.spilled (on_ok c.write-wrote.result (c.write-wrote.ensures.written told) ok)) next.own)
-    ∙ ap (counting true) (placed-written seen after rs (records_behind next.buffer.items) (none-behind next.buffer.items (omega (arith, long))) frames)
+    ∙ ap (counted_messages true) (placed-written seen after rs (records_behind next.buffer.items) (none-behind next.buffer.items (omega (arith, long))) frames)
     ∙ counted-all seen log.next.gate log.next.spilled log.next.buffer.items (batch_of log.next) (chains_of log.pages.items) (λ i. g.met.D.Disk.are_bytes log.disk i told) (log.stands told c.requires.usable) log.next.own)

@@ -1,10 +1,10 @@
 use Rattle.std.proofs.Common.{◌≡◌, ◌≢◌, List, [], slice_index_or, sym, ◌∙◌, subst, arith}
 use Rattle.std.specs.Prelude.{IfSome, IfNone}
 use Rattle.std.specs.List.{AllByRecursion}
-use Rattle.sled_disk.specs.declared.head.Head.{Head}
-use Rattle.sled_disk.specs.Found.{IsHeadOf}
+use Rattle.sled_disk.specs.declared.recovery.head.Head.{Head}
+use Rattle.sled_disk.specs.HeadLookup.{IsHeadOf}
 use Rattle.sled_disk.specs.Reading.{chains_of}
-use Rattle.sled_disk.proofs.Heads.{chain_at}
+use Rattle.sled_disk.proofs.Chains.ChainHeads.{chain_at}
 use Rattle.sled_disk.proofs.log.finding.find.Goals as goal
 
 pub returns-clause-some : goal.returns-clause-some

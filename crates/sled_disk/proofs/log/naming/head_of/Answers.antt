@@ -1,5 +1,5 @@
 use Rattle.std.proofs.Common.{drop}
-use Rattle.sled_disk.proofs.Among.{front-taken}
+use Rattle.sled_disk.proofs.Moves.RecordPlaces.{front-taken}
 use Rattle.sled_disk.proofs.log.naming.head_of.Goals as goal
 
 pub returns-clause-durable : goal.returns-clause-durable

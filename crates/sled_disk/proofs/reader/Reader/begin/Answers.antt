@@ -1,16 +1,16 @@
 use Rattle.std.proofs.Common.{◌≡◌, ◌+◌, ◌-◌, ◌≤◌, ◌∙◌, ℕ, true, not, List, length, take, drop, ap, sym, arith}
 use Rattle.std.specs.Cmp.Lexicographic.{bytes_decides}
 use Rattle.std.specs.Global.{Vec}
-use Rattle.sled_disk.specs.declared.head.Head.{Head}
+use Rattle.sled_disk.specs.declared.recovery.head.Head.{Head}
 use Rattle.sled_disk.specs.Format.{opening}
-use Rattle.sled_disk.specs.Left.{left_at}
+use Rattle.sled_disk.specs.UnreadBytes.{left_at}
 use Rattle.sled_disk.specs.Format.{outside}
 use Rattle.sled_disk.specs.Reading.{chains_of, found_at}
 use Rattle.sled_disk.specs.WholeLaws.{described-opens}
-use Rattle.sled_disk.proofs.Going.{shows-still}
-use Rattle.sled_disk.proofs.Heads.{not_false}
-use Rattle.sled_disk.proofs.Left.{left-gate}
-use Rattle.sled_disk.proofs.OnDisk.{shown-at}
+use Rattle.sled_disk.proofs.Readers.ReaderSteps.{shows-still}
+use Rattle.sled_disk.proofs.Chains.ChainHeads.{not_false}
+use Rattle.sled_disk.proofs.Readers.UnreadBytes.{left-gate}
+use Rattle.sled_disk.proofs.Readers.ReadParts.{shown-at}
 use Rattle.sled_disk.proofs.reader.Reader.begin.Goals as goal
 
 -- the first bytes, as the window shows them

@@ -1,9 +1,9 @@
 use Rattle.std.proofs.Common.{◌+◌, ℕ, List, sym, subst, arith}
 use Rattle.std.specs.List.{AllByRecursion}
-use Rattle.sled_disk.specs.declared.head.Head.{Head}
+use Rattle.sled_disk.specs.declared.recovery.head.Head.{Head}
 use Rattle.sled_disk.specs.Reading.{chains_of}
-use Rattle.sled_disk.specs.TakenBy.{IsWaiting}
-use Rattle.sled_disk.proofs.Heads.{heads-later}
+use Rattle.sled_disk.specs.BatchChanges.{IsWaiting}
+use Rattle.sled_disk.proofs.Chains.ChainHeads.{heads-later}
 use Rattle.sled_disk.proofs.reader.Reader.count_batch.Goals as goal
 
 pub invariant_of-self : goal.invariant_of-self

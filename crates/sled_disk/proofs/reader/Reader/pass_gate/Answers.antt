@@ -1,10 +1,10 @@
 use Rattle.std.proofs.Common.{◌+◌, ℕ, List, length, subst, arith}
 use Rattle.std.proofs.lemmas.Bool.{eqb-true, eqb-false}
-use Rattle.sled_disk.specs.OnDisk.{BodyOnDisk, HasBody}
+use Rattle.sled_disk.specs.DiskReads.{BodyOnDisk, HasBody}
 use Rattle.sled_disk.specs.Reading.{chains_of}
-use Rattle.sled_disk.proofs.Going.{goes-awaited, goes-ended, goes-closed, goes-far, goes-torn, goes-opened, shows-still, room-known}
-use Rattle.sled_disk.proofs.Heads.{heads-later}
-use Rattle.sled_disk.proofs.TakenBy.{waiting-later}
+use Rattle.sled_disk.proofs.Readers.ReaderSteps.{goes-awaited, goes-ended, goes-closed, goes-far, goes-torn, goes-opened, shows-still, room-known}
+use Rattle.sled_disk.proofs.Chains.ChainHeads.{heads-later}
+use Rattle.sled_disk.proofs.Readers.BatchChanges.{waiting-later}
 use Rattle.sled_disk.proofs.reader.Reader.pass_gate.Goals as goal
 
 pub returns-then-not-is_empty-clause-corrupt : goal.returns-then-not-is_empty-clause-corrupt

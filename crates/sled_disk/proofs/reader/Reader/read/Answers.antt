@@ -1,11 +1,11 @@
 use Rattle.std.proofs.Common.{◌∙◌, ℕ, List, drop, ap, sym, arith}
 use Rattle.sled_log.specs.declared.log.LogError.TheVariants.{Corruption}
-use Rattle.sled_disk.specs.Opened.{AreRead}
-use Rattle.sled_disk.specs.GoesOn.{read_by}
+use Rattle.sled_disk.specs.RecoveredHeads.{AreRead}
+use Rattle.sled_disk.specs.ReaderState.{read_by}
 use Rattle.sled_disk.specs.Reading.{chains_of, start, found_at}
 use Rattle.sled_disk.specs.WholeLaws.{described-found, read-holds}
-use Rattle.sled_disk.proofs.Going.{handed-on}
-use Rattle.sled_disk.proofs.Heads.{all-end, heads-placed}
+use Rattle.sled_disk.proofs.Readers.ReaderSteps.{handed-on}
+use Rattle.sled_disk.proofs.Chains.ChainHeads.{all-end, heads-placed}
 use Rattle.sled_disk.proofs.reader.Reader.read.Goals as goal
 
 pub returns-in_err-take_record-clause-corrupt : goal.returns-in_err-take_record-clause-corrupt

@@ -1,6 +1,6 @@
 use Rattle.std.proofs.Common.{◌-◌, ◌≤◌}
-use Rattle.sled_disk.specs.GoesOn.{GoesOn}
-use Rattle.sled_disk.specs.OnDisk.{Rests}
+use Rattle.sled_disk.specs.ReaderState.{GoesOn}
+use Rattle.sled_disk.specs.DiskReads.{Rests}
 use Rattle.sled_disk.proofs.reader.Reader.read.Given as goal
 
 -- the reader goes on in the bytes as they were

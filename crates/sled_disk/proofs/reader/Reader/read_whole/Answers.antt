@@ -1,7 +1,7 @@
 use Rattle.std.proofs.Common.{List, ℕ, Err, refl, sym, subst}
 use Rattle.sled_log.specs.declared.log.LogError.TheVariants.{Corruption}
 use Rattle.sled_disk.specs.Format.{Describes}
-use Rattle.sled_disk.proofs.Going.{handed-on}
+use Rattle.sled_disk.proofs.Readers.ReaderSteps.{handed-on}
 use Rattle.sled_disk.proofs.reader.Reader.read_whole.Goals as goal
 
 pub returns-in-Err-read-clause-corrupt : goal.returns-in-Err-read-clause-corrupt

@@ -2,19 +2,19 @@ use Rattle.std.proofs.Common.{◌≡◌, ◌+◌, ◌∙◌, ℕ, List, [], ◌�
 use Rattle.std.specs.Prelude.{Option, Some, None}
 use Rattle.std.specs.List.{AllByRecursion}
 use Rattle.std.proofs.lemmas.Bool.{eq-eqb, ne_eqb}
-use Rattle.sled_disk.specs.declared.head.Head.{Head}
+use Rattle.sled_disk.specs.declared.recovery.head.Head.{Head}
 use Rattle.sled_disk.specs.Format.{◌>>=◌, outside, within, is_changing}
-use Rattle.sled_disk.specs.GoesOn.{read_by}
+use Rattle.sled_disk.specs.ReaderState.{read_by}
 use Rattle.sled_base.specs.Kinds.{log_kind_of}
-use Rattle.sled_disk.specs.declared.window.Window.{Window}
+use Rattle.sled_disk.specs.declared.reader.window.Window.{Window}
 use Rattle.std.specs.Global.{Vec}
-use Rattle.sled_disk.specs.Left.{left_at, piece as piece_of}
+use Rattle.sled_disk.specs.UnreadBytes.{left_at, piece as piece_of}
 use Rattle.sled_disk.specs.Reading.{Read, chains_of, raw_record, step}
-use Rattle.sled_disk.specs.TakenBy.{IsWaiting}
-use Rattle.sled_disk.proofs.Going.{goes-refused, goes-taken, goes-alike, left-same, read-closed, read-opened, either_way, at_ok, at_err}
-use Rattle.sled_disk.proofs.Heads.{heads-later}
-use Rattle.sled_disk.proofs.Makes.{head_of, closing-refused, closing-dropped, closing-counted, change-refused, change-waits, unnamed, named}
-use Rattle.sled_disk.proofs.TakenBy.{waiting-later, waiting-more}
+use Rattle.sled_disk.specs.BatchChanges.{IsWaiting}
+use Rattle.sled_disk.proofs.Readers.ReaderSteps.{goes-refused, goes-taken, goes-alike, left-same, read-closed, read-opened, either_way, at_ok, at_err}
+use Rattle.sled_disk.proofs.Chains.ChainHeads.{heads-later}
+use Rattle.sled_disk.proofs.Readers.RecordEffects.{head_of, closing-refused, closing-dropped, closing-counted, change-refused, change-waits, unnamed, named}
+use Rattle.sled_disk.proofs.Readers.BatchChanges.{waiting-later, waiting-more}
 use Rattle.sled_disk.proofs.reader.Reader.take_inside.Goals as goal
 
 none_some : {place : ℕ} → None ≡ Some place → ⊥

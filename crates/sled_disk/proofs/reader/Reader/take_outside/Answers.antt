@@ -1,15 +1,15 @@
 use Rattle.std.proofs.Common.{◌≡◌, ◌+◌, ◌∙◌, ℕ, List, [], ◌∷◌, refl, ap, sym, arith}
 use Rattle.std.specs.Prelude.{Option, Some, ◌&&◌}
 use Rattle.sled_log.specs.declared.log.LogError.TheVariants.{Corruption}
-use Rattle.sled_disk.specs.declared.head.Head.{Head}
+use Rattle.sled_disk.specs.declared.recovery.head.Head.{Head}
 use Rattle.sled_disk.specs.Format.{◌>>=◌, number, outside, within, stands_in}
-use Rattle.sled_disk.specs.GoesOn.{read_by}
-use Rattle.sled_disk.specs.Left.{left_at}
+use Rattle.sled_disk.specs.ReaderState.{read_by}
+use Rattle.sled_disk.specs.UnreadBytes.{left_at}
 use Rattle.sled_disk.specs.Reading.{Read, chains_of, raw_record, step, step_head}
-use Rattle.sled_disk.proofs.Going.{goes-refused, goes-taken, goes-misnamed, goes-named, handed-on, unmade, read-closed}
-use Rattle.sled_disk.proofs.Heads.{heads-later, heads-taken}
-use Rattle.sled_disk.proofs.Makes.{head_of, begin-made, begin-refused, plain-made}
-use Rattle.sled_disk.proofs.TakenBy.{waiting-later}
+use Rattle.sled_disk.proofs.Readers.ReaderSteps.{goes-refused, goes-taken, goes-misnamed, goes-named, handed-on, unmade, read-closed}
+use Rattle.sled_disk.proofs.Chains.ChainHeads.{heads-later, heads-taken}
+use Rattle.sled_disk.proofs.Readers.RecordEffects.{head_of, begin-made, begin-refused, plain-made}
+use Rattle.sled_disk.proofs.Readers.BatchChanges.{waiting-later}
 use Rattle.sled_disk.proofs.reader.Reader.take_outside.Goals as goal
 
 pub returns-then-not-is_begin-clause-corrupt : goal.returns-then-not-is_begin-clause-corrupt

@@ -1,8 +1,8 @@
 use Rattle.std.proofs.Common.{◌∙◌, ℕ, List, length, take, drop, ap, sym}
-use Rattle.sled_disk.specs.GoesOn.{read_by}
-use Rattle.sled_disk.specs.Left.{left_at}
+use Rattle.sled_disk.specs.ReaderState.{read_by}
+use Rattle.sled_disk.specs.UnreadBytes.{left_at}
 use Rattle.sled_disk.specs.Reading.{start, found_at}
-use Rattle.sled_disk.proofs.Going.{goes-unread, goes-reached, goes-missed, shows-still}
+use Rattle.sled_disk.proofs.Readers.ReaderSteps.{goes-unread, goes-reached, goes-missed, shows-still}
 use Rattle.sled_disk.proofs.reader.Reader.take_record.Goals as goal
 
 pub returns-in_default-clause-corrupt : goal.returns-in_default-clause-corrupt

@@ -2,12 +2,12 @@ use Rattle.std.proofs.Common.{◌∷◌, ◌∙◌, ℕ, List, length, drop, ref
 use Rattle.std.specs.List.{AllByRecursion}
 use Rattle.std.proofs.lemmas.Bool.{ltb-true}
 use Rattle.sled_log.specs.declared.log.LogError.TheVariants.{Corruption}
-use Rattle.sled_disk.specs.declared.head.Head.{Head}
-use Rattle.sled_disk.specs.Opened.{AreHeadsBy}
+use Rattle.sled_disk.specs.declared.recovery.head.Head.{Head}
+use Rattle.sled_disk.specs.RecoveredHeads.{AreHeadsBy}
 use Rattle.sled_disk.specs.Reading.{chains_of, step_head}
-use Rattle.sled_disk.specs.TakenBy.{taken_by, IsWaiting, IsChanging}
-use Rattle.sled_disk.proofs.Going.{handed-on, unmade}
-use Rattle.sled_disk.proofs.TakenBy.{taken-on, taken-none, front-is, heads-on}
+use Rattle.sled_disk.specs.BatchChanges.{taken_by, IsWaiting, IsChanging}
+use Rattle.sled_disk.proofs.Readers.ReaderSteps.{handed-on, unmade}
+use Rattle.sled_disk.proofs.Readers.BatchChanges.{taken-on, taken-none, front-is, heads-on}
 use Rattle.sled_disk.proofs.reader.waiting.take_all.Goals as goal
 
 pub returns-in_err-take_head-clause-heads : goal.returns-in_err-take_head-clause-heads

@@ -1,8 +1,8 @@
 use Rattle.std.proofs.Common.{◌≡◌, ℕ, length}
 use Rattle.std.specs.List.{AllByRecursion}
-use Rattle.sled_disk.specs.Opened.{AreHeadsBy}
+use Rattle.sled_disk.specs.RecoveredHeads.{AreHeadsBy}
 use Rattle.sled_disk.specs.Reading.{chains_of}
-use Rattle.sled_disk.specs.TakenBy.{taken_by, IsWaiting, IsChanging}
+use Rattle.sled_disk.specs.BatchChanges.{taken_by, IsWaiting, IsChanging}
 use Rattle.sled_disk.proofs.reader.waiting.take_all.Given as goal
 
 -- those that are left make of what was taken what all make

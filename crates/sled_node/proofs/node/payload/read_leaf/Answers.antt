@@ -16,29 +16,29 @@ use Rattle.sled_node.proofs.LeafPayloads.{halves, leaf_read, no_leaf_strings}
 use Rattle.sled_node.proofs.node.payload.read_leaf.Goals as goal
 
 -- where there are no such pairs, there is no leaf
-pub returns-in_default-clause-refused : goal.returns-in_default-clause-refused
-returns-in_default-clause-refused c = λ pairs rest found. c.in_default.ensures.nothing pairs rest found.0
+pub returns-in_default-split_pairs-clause-refused : goal.returns-in_default-split_pairs-clause-refused
+returns-in_default-split_pairs-clause-refused c = λ pairs rest found. c.in_default-split_pairs.ensures.nothing pairs rest found.0
 
 -- nor where there are not so many strings
 pub returns-in_err-strings-clause-refused : goal.returns-in_err-strings-clause-refused
 returns-in_err-strings-clause-refused c =
     let p = err_from_is_err_and c.from_residual.result c.from_residual.ensures.1 in
     let input = c.args.input.now.now in
-    let count = c.in-Some.count in
-    let keys = c.in-Some.keys.now in
-    let split = c.in-Some.ensures.found in
-    let asks : AsksPairs input = record { count = count; keys = keys; items = c.in-Some.field-0-2.now; split = split; some = omega arith } in
+    let count = c.in-Some-split_pairs.count in
+    let keys = c.in-Some-split_pairs.keys.now in
+    let split = c.in-Some-split_pairs.ensures.found in
+    let asks : AsksPairs input = record { count = count; keys = keys; items = c.in-Some-split_pairs.field-0-2.now; split = split; some = omega arith } in
     rw (p.1, p.2) (refused_so (λ _. ⊤) AsksPairs (ReadsCount (2 * count) ReadsShort) ReadsLeaf keys input c.in_err-strings.field-0.0 (λ _. asks) (no_leaf_strings input count keys split.counted) c.in_err-strings.ensures.refused)
 
 pub of_strings-requires : goal.of_strings-requires
-of_strings-requires c = halves c.in_ok-strings.strings c.in-Some.count c.in_ok-strings.ensures.read.0
+of_strings-requires c = halves c.in_ok-strings.strings c.in-Some-split_pairs.count c.in_ok-strings.ensures.read.0
 
 pub returns-in-Some-of_strings-clause-read : goal.returns-in-Some-of_strings-clause-read
 returns-in-Some-of_strings-clause-read c =
     let input = c.args.input.now.now in
-    let rest = c.read_strings.new.input.now in
-    let split = c.in-Some.ensures.found in
-    let read = leaf_read input c.in-Some.count c.in-Some.keys.now split.counted split.few c.in_ok-strings.strings rest c.in_ok-strings.ensures.read in
+    let rest = c.read_each.new.input.now in
+    let split = c.in-Some-split_pairs.ensures.found in
+    let read = leaf_read input c.in-Some-split_pairs.count c.in-Some-split_pairs.keys.now split.counted split.few c.in_ok-strings.strings rest c.in_ok-strings.ensures.read in
     let leaf = c.in-Some-of_strings.ensures in
     subst (λ pairs. ReadsLeaf input pairs rest) (sym leaf.1) (read, leaf.0)
 
@@ -46,7 +46,7 @@ returns-in-Some-of_strings-clause-read c =
 pub returns-in-None-clause-refused : goal.returns-in-None-clause-refused
 returns-in-None-clause-refused c =
     let input = c.args.input.now.now in
-    let rest = c.read_strings.new.input.now in
-    let split = c.in-Some.ensures.found in
-    let read = leaf_read input c.in-Some.count c.in-Some.keys.now split.counted split.few c.in_ok-strings.strings rest c.in_ok-strings.ensures.read in
+    let rest = c.read_each.new.input.now in
+    let split = c.in-Some-split_pairs.ensures.found in
+    let read = leaf_read input c.in-Some-split_pairs.count c.in-Some-split_pairs.keys.now split.counted split.few c.in_ok-strings.strings rest c.in_ok-strings.ensures.read in
     only_others (ReadsPairs ReadsBytes) (HasPairs IsWithinLimit) (Pairs-grammar Bytes-grammar) input (paired c.in_ok-strings.strings) rest read c.in-None.ensures

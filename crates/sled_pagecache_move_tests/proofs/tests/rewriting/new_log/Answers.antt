@@ -1,6 +1,6 @@
 -- A log that was created on a disk holds no page.
 use Rattle.sled_pagecache.proofs.Names.{◌∙◌, List, [], ap, chains_after, Event, LogState, Entry, effect_of_entry}
-use Rattle.sled_disk.specs.DurableLaws.{one-meaning}
+use Rattle.sled_disk.specs.AppendedFrameLaws.{one-meaning}
 use Rattle.sled_pagecache_move_tests.proofs.tests.rewriting.new_log.Goals as goal
 
 pub returns-in-Ok-open : goal.returns-in-Ok-open

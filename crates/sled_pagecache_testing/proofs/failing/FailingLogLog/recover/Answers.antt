@@ -1,4 +1,4 @@
-use Rattle.sled_pagecache.proofs.Names.{◌==◌, refl, arith, called_over}
+use Rattle.sled_pagecache.proofs.Names.{refl, arith, called_over}
 use Rattle.sled_pagecache_testing.specs.declared.failing.FailingLog.{FailingLog}
 use Rattle.sled_pagecache_testing.proofs.failing.FailingLogLog.recover.Goals as goal
 

@@ -1,4 +1,3 @@
-use Rattle.std.proofs.Common.{List, ℕ, subst}
 use Rattle.sled_script.proofs.program.over_disk.open_on.Goals as goal
 
 pub returns-in-Ok-start-clause-opened : goal.returns-in-Ok-start-clause-opened

@@ -1,6 +1,4 @@
-use Rattle.std.proofs.Common.{Option, List, ℕ, Ok, Err, inl, subst}
-use Rattle.sled_base.specs.Order.{Bytes}
-use Rattle.sled_script.specs.Runs.{Serves}
+use Rattle.std.proofs.Common.{inl}
 use Rattle.sled_script.proofs.OverDisk.{unread}
 use Rattle.sled_script.proofs.program.over_disk.serve.Goals as goal
 

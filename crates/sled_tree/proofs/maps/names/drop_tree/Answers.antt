@@ -1,9 +1,8 @@
-use Rattle.std.proofs.Common.{true, false, List, None, Ok, Some, subst}
+use Rattle.std.proofs.Common.{List, None, Ok, Some, subst}
 use Rattle.sled_base.specs.declared.types.Error.{Error}
-use Rattle.sled_pagecache.specs.Cache.{Cache}
 use Rattle.sled_pagecache.specs.State.{Token}
 use Rattle.sled_tree.specs.Changed.{Reads}
-use Rattle.sled_tree.specs.Dropping.{AreLoose, AreReached, DropsMap, IsRootOf}
+use Rattle.sled_tree.specs.Dropping.{AreLoose, AreReached, IsRootOf}
 use Rattle.sled_tree.specs.Maps.{Keeps}
 use Rattle.sled_tree.specs.Performs.{Performs}
 use Rattle.sled_tree.specs.declared.error.TreeError.{TreeError}

@@ -1,6 +1,5 @@
 use Rattle.std.proofs.Common.{Ok, Err, subst}
 use Rattle.sled_base.specs.Order.{Bytes}
-use Rattle.sled_pagecache.specs.Cache.{Cache}
 use Rattle.sled_tree.specs.Maps.{root_of}
 use Rattle.sled_tree.specs.Names.{OpensMap}
 use Rattle.sled_tree.specs.Performs.{Performs}

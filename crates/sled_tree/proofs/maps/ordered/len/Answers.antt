@@ -1,11 +1,7 @@
-use Rattle.std.proofs.Common.{◌≡◌, Ok, length, subst}
-use Rattle.sled_pagecache.specs.Cache.{Cache}
+use Rattle.std.proofs.Common.{◌≡◌, length}
 use Rattle.sled_search.specs.Map.{Map}
 use Rattle.sled_search.specs.Search.{IsTreeOf}
-use Rattle.sled_tree.specs.Changed.{Reads}
 use Rattle.sled_tree.specs.Maps.{root_of}
-use Rattle.sled_tree.specs.Performs.{Performs}
-use Rattle.sled_tree.specs.declared.error.TreeError.{TreeError}
 use Rattle.sled_tree.proofs.Performing.{reads-ok, reads-so}
 use Rattle.sled_tree.proofs.maps.ordered.len.Goals as goal
 

@@ -1,13 +1,9 @@
-use Rattle.std.proofs.Common.{◌≡◌, Ok, subst}
-use Rattle.sled_pagecache.specs.Cache.{Cache}
+use Rattle.std.proofs.Common.{◌≡◌}
 use Rattle.sled_search.specs.Map.{Map}
 use Rattle.sled_search.specs.Ordered.{IsNextBelow}
 use Rattle.sled_search.specs.Search.{IsTreeOf}
-use Rattle.sled_tree.specs.Changed.{Reads}
 use Rattle.sled_tree.specs.Maps.{root_of}
 use Rattle.sled_tree.specs.Ordered.{before, last_of}
-use Rattle.sled_tree.specs.Performs.{Performs}
-use Rattle.sled_tree.specs.declared.error.TreeError.{TreeError}
 use Rattle.sled_tree.proofs.OrderedNext.{last-is}
 use Rattle.sled_tree.proofs.Performing.{on-weaker, reads-ok, reads-so}
 use Rattle.sled_tree.proofs.maps.ordered.next_below.Goals as goal

@@ -2,7 +2,6 @@ use Rattle.std.proofs.Common.{Option, Some, Err, refl, subst, sym}
 use Rattle.std.specs.Option.{option_map}
 use Rattle.std.specs.Prelude.{⊤}
 use Rattle.sled_base.specs.Order.{Bytes}
-use Rattle.sled_pagecache.specs.Cache.{Cache}
 use Rattle.sled_tree.specs.Maps.{ChangesMap, SwapsKey, root_of}
 use Rattle.sled_tree.specs.Performs.{Performs}
 use Rattle.sled_tree.specs.Walks.{HasRoot}

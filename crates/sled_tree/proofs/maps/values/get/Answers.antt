@@ -1,12 +1,8 @@
-use Rattle.std.proofs.Common.{◌≡◌, Ok, subst}
-use Rattle.sled_pagecache.specs.Cache.{Cache}
+use Rattle.std.proofs.Common.{◌≡◌}
 use Rattle.sled_search.specs.Map.{Map, at_key}
 use Rattle.sled_search.specs.Search.{ComesToValue, IsTreeOf}
 use Rattle.sled_search.proofs.Search.{one_found}
-use Rattle.sled_tree.specs.Changed.{Reads}
 use Rattle.sled_tree.specs.Maps.{root_of}
-use Rattle.sled_tree.specs.Performs.{Performs}
-use Rattle.sled_tree.specs.declared.error.TreeError.{TreeError}
 use Rattle.sled_tree.proofs.Performing.{on-weaker, reads-ok, reads-so}
 use Rattle.sled_tree.proofs.maps.values.get.Goals as goal
 

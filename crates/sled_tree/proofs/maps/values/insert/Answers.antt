@@ -1,5 +1,5 @@
 use Rattle.std.proofs.lemmas.Bool.{false≢true}
-use Rattle.std.proofs.Common.{◌≡◌, Ok, Err, Option, Result, ℕ, refl, subst}
+use Rattle.std.proofs.Common.{◌≡◌, Ok, Err, Option, Result, ℕ, refl}
 use Rattle.std.specs.Prelude.{IfOk, IsErr, ⊤}
 use Rattle.sled_base.specs.Order.{Bytes}
 use Rattle.sled_base.specs.declared.types.Error.{Error}

@@ -1,10 +1,9 @@
-use Rattle.std.proofs.Common.{◌≡◌, Ok, Err, None, Some, Option, Result, ap, not, refl, subst, sym, ◌∙◌}
+use Rattle.std.proofs.Common.{◌≡◌, Ok, Err, Some, Option, Result, ap, not, refl, subst, sym, ◌∙◌}
 use Rattle.std.proofs.lemmas.Bool.{false≢true}
 use Rattle.std.specs.Prelude.{IfOk, IsErr, ⊤}
 use Rattle.sled_base.specs.Order.{Bytes}
 use Rattle.sled_base.specs.declared.types.Error.{Error}
 use Rattle.sled_node.specs.declared.node.link.Link.TheVariants.{Del}
-use Rattle.sled_pagecache.specs.Cache.{Cache}
 use Rattle.sled_tree.specs.Maps.{ChangesMap, TakesKey, root_of}
 use Rattle.sled_tree.specs.Performs.{Performs}
 use Rattle.sled_tree.specs.Walks.{LinksPlace}

@@ -1,7 +1,7 @@
 use Rattle.std.proofs.Common.{◌≡◌, true, List, sym, ◌∙◌, ap, subst, length}
 use Rattle.sled_disk.specs.Journal.{Sync, are_within, Image, calls_in, all_synced, after_calls}
 use Rattle.sled_disk.specs.declared.disk.journal.Call.{Call as StoredCall}
-use Rattle.sled_disk.proofs.Journal.{within-sync-more, calls_in-sync, after_calls-push}
+use Rattle.sled_disk.proofs.Disks.JournalCalls.{within-sync-more, calls_in-sync, after_calls-push}
 use Rattle.sled_disk.proofs.disk.memory.MemDisk.note_sync.Goals as goal
 
 pub invariant_of-self-clause-within : goal.invariant_of-self-clause-within

@@ -4,7 +4,7 @@ use Rattle.sled_disk.specs.Disk.{overlaid}
 use Rattle.sled_disk.specs.Journal.{Write, are_within, Image, calls_in, all_synced, after_calls}
 use Rattle.sled_disk.specs.declared.disk.journal.Call.{Call as StoredCall}
 use Rattle.sled_disk.specs.declared.disk.journal.Call.TheVariants as stored
-use Rattle.sled_disk.proofs.Journal.{within-write-more, calls_in-write, after_calls-push}
+use Rattle.sled_disk.proofs.Disks.JournalCalls.{within-write-more, calls_in-write, after_calls-push}
 use Rattle.sled_disk.specs.DiskLaws.{length-overlaid}
 use Rattle.sled_disk.specs.OverlayLaws.{bytes-overlaid}
 use Rattle.sled_disk.proofs.disk.memory.MemDisk.note_write.Goals as goal

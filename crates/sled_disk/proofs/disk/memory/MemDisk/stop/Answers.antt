@@ -3,7 +3,7 @@ use Rattle.std.proofs.Common.{rules, ℕ, List, [], ◌≡◌, ◌+◌, true, le
 use Rattle.std.proofs.lemmas.Bool.{eq-eqb}
 use Rattle.sled_disk.specs.Journal.{is_within, are_within, IsReplayed, after_call, call_in, calls_in, all_synced, after_calls}
 use Rattle.sled_disk.specs.declared.disk.journal.Call.TheVariants as stored
-use Rattle.sled_disk.proofs.Journal.{next, within-grows, replayed-more}
+use Rattle.sled_disk.proofs.Disks.JournalCalls.{next, within-grows, replayed-more}
 use Rattle.sled_disk.proofs.disk.memory.MemDisk.stop.Goals as goal
 
 pub copy-requires : goal.copy-requires

@@ -1,4 +1,4 @@
-use Rattle.sled_disk.proofs.DiskMoments.{stops-sync, stops-sync-no_more, elapses}
+use Rattle.sled_disk.proofs.Disks.JournalMoments.{stops-sync, stops-sync-no_more, elapses}
 use Rattle.sled_disk.specs.Journal.{Sync}
 use Rattle.sled_disk.proofs.disk.memory.MemDiskDisk.sync.Goals as goal
 

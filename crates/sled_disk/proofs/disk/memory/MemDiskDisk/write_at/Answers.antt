@@ -1,6 +1,6 @@
 use Rattle.std.proofs.Common.{length}
 use Rattle.sled_disk.specs.Journal.{Write}
-use Rattle.sled_disk.proofs.DiskMoments.{stops-write, tears-write, stops-none, elapses}
+use Rattle.sled_disk.proofs.Disks.JournalMoments.{stops-write, tears-write, stops-none, elapses}
 use Rattle.sled_disk.proofs.disk.memory.MemDiskDisk.write_at.Goals as goal
 
 pub returns-then-due-clause-stop : goal.returns-then-due-clause-stop

@@ -1,6 +1,6 @@
 use Rattle.std.proofs.Common.{refl}
 use Rattle.sled_disk.specs.Tasks.{tasks_in}
-use Rattle.sled_disk.proofs.StagedMoments.{durable, elapses-sync, no_more, settled-sync}
+use Rattle.sled_disk.proofs.StagedDisks.StagedMoments.{durable, elapses-sync, no_more, settled-sync}
 use Rattle.sled_disk.proofs.disk.staged.StagedDiskDisk.sync.Goals as goal
 
 pub returns-then-sync-clause-durable : goal.returns-then-sync-clause-durable

@@ -2,11 +2,11 @@
 use Rattle.std.proofs.Common.{◌+◌, ◌≤◌, [], ◌++◌, length, refl, sym, ◌∙◌, ap, subst, rules, arith}
 use Rattle.std.proofs.lemmas.List.{append-nil}
 use Rattle.sled_disk.specs.CallersFile.{bytewise, held_after}
-use Rattle.sled_disk.specs.HandedIn.{StandOver, seen_in}
+use Rattle.sled_disk.specs.StagedReads.{StandOver, seen_in}
 use Rattle.sled_disk.specs.Staged.{calls_of, holds, seen_over, waiting}
 use Rattle.sled_disk.specs.Tasks.{tasks_in}
-use Rattle.sled_disk.proofs.StagedMoments.{again-calls, elapses-write, same-may}
-use Rattle.sled_disk.proofs.WrittenAgain.{again-over}
+use Rattle.sled_disk.proofs.StagedDisks.StagedMoments.{again-calls, elapses-write, same-may}
+use Rattle.sled_disk.proofs.StagedDisks.RepeatedWrites.{again-over}
 use Rattle.sled_disk.proofs.disk.staged.StagedDiskDisk.write_again.Goals as goal
 
 pub write_again-requires-clause-small : goal.write_again-requires-clause-small

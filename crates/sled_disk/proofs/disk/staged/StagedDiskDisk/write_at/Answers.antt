@@ -1,6 +1,6 @@
 use Rattle.std.proofs.Common.{refl, ap}
 use Rattle.sled_disk.specs.Tasks.{tasks_in}
-use Rattle.sled_disk.proofs.StagedMoments.{elapses-write, follows-write, with-write}
+use Rattle.sled_disk.proofs.StagedDisks.StagedMoments.{elapses-write, follows-write, with-write}
 use Rattle.sled_disk.proofs.disk.staged.StagedDiskDisk.write_at.Goals as goal
 
 pub returns-then-write-clause-stop : goal.returns-then-write-clause-stop

@@ -1,7 +1,7 @@
 use Rattle.std.proofs.Common.{ap, subst, sym, ◌∙◌}
-use Rattle.sled_disk.specs.HandedIn.{AddsTask}
+use Rattle.sled_disk.specs.StagedReads.{AddsTask}
 use Rattle.sled_disk.specs.Staged.{holds}
-use Rattle.sled_disk.proofs.Doing.{done-task, left-none, left-task}
+use Rattle.sled_disk.proofs.StagedDisks.TaskRuns.{done-task, left-none, left-task}
 use Rattle.sled_disk.proofs.disk.staged.doing.do_task.Goals as goal
 
 pub returns-in_default-clause-left : goal.returns-in_default-clause-left

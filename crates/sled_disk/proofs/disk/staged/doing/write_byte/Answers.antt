@@ -1,6 +1,6 @@
 use Rattle.std.proofs.Common.{[], ◌∷◌, sym, ◌∙◌}
-use Rattle.sled_disk.proofs.Doing.{on-ok}
-use Rattle.sled_disk.proofs.HandedIn.{overlaid-there}
+use Rattle.sled_disk.proofs.StagedDisks.TaskRuns.{on-ok}
+use Rattle.sled_disk.proofs.StagedDisks.StagedReads.{overlaid-there}
 use Rattle.sled_disk.proofs.disk.staged.doing.write_byte.Goals as goal
 
 pub returns-then-branch-clause-written : goal.returns-then-branch-clause-written

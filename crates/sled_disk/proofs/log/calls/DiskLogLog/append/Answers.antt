@@ -1,13 +1,13 @@
 use Rattle.std.proofs.Common.{length, sym, ◌∙◌, ap, arith}
 use Rattle.std.proofs.lemmas.Result.{err_from_is_err_and}
-use Rattle.sled_disk.specs.declared.names.Names.{Names}
-use Rattle.sled_disk.specs.declared.next_frame.NextFrame.{NextFrame}
+use Rattle.sled_disk.specs.declared.log.names.Names.{Names}
+use Rattle.sled_disk.specs.declared.format.next_frame.NextFrame.{NextFrame}
 use Rattle.sled_disk.specs.Pending.{state_in}
-use Rattle.sled_disk.proofs.ThenRead.{called-then, then-rests}
+use Rattle.sled_disk.proofs.LogCalls.LaterReads.{called-then, then-rests}
 use Rattle.sled_log.specs.Moves.{Moves}
 use Rattle.sled_disk.specs.Names.{moves_in}
-use Rattle.sled_disk.specs.Waiting.{place_of}
-use Rattle.sled_disk.proofs.Unnamed.{due-of-all, read-ahead, never-empty}
+use Rattle.sled_disk.specs.PendingFrame.{place_of}
+use Rattle.sled_disk.proofs.Moves.MovesAfterCalls.{due-of-all, read-ahead, never-empty}
 use Rattle.sled_disk.proofs.log.calls.DiskLogLog.append.Goals as goal
 
 pub returns-in_err-said-clause-called : goal.returns-in_err-said-clause-called

@@ -1,5 +1,5 @@
 use Rattle.std.proofs.Common.{sym, ◌∙◌}
-use Rattle.sled_disk.proofs.Calling.{opens-by}
+use Rattle.sled_disk.proofs.LogCalls.CallOutcomes.{opens-by}
 use Rattle.sled_disk.proofs.log.calls.DiskLogLog.batch_open.Goals as goal
 
 pub returns : goal.returns

@@ -5,11 +5,11 @@ use Rattle.std.proofs.lemmas.Result.{err_from_is_err_and}
 use Rattle.sled_log.specs.declared.log.LogError.TheVariants.{WriteFault}
 use Rattle.sled_disk.specs.Pending.{pending_in, open_by}
 use Rattle.sled_disk.specs.Reading.{chains_of}
-use Rattle.sled_disk.proofs.Calling.{opens-by, called-waits, called-wrote, called-fault, rests-same, read-described}
-use Rattle.sled_disk.specs.ReadyLaws.{none-behind}
-use Rattle.sled_disk.specs.Standing.{records_behind, is_begun}
-use Rattle.sled_disk.specs.Waiting.{batch_of, progress_of, events_of}
-use Rattle.sled_disk.proofs.Written.{settles-then, begins-now, room-small, begins-after, size-none, size-not, none-waits}
+use Rattle.sled_disk.proofs.LogCalls.CallOutcomes.{opens-by, called-waits, called-wrote, called-fault, rests-same, read-described}
+use Rattle.sled_disk.specs.RecoveredLogLaws.{none-behind}
+use Rattle.sled_disk.specs.LogContents.{records_behind, is_begun}
+use Rattle.sled_disk.specs.PendingFrame.{batch_of, progress_of, events_of}
+use Rattle.sled_disk.proofs.Frames.WrittenFrame.{settles-then, begins-now, room-small, begins-after, size-none, size-not, none-waits}
 use Rattle.sled_disk.proofs.log.calls.DiskLogLog.make_stable.Goals as goal
 
 pub returns-then-bytes-eq0-clause-called : goal.returns-then-bytes-eq0-clause-called

@@ -2,20 +2,20 @@ use Rattle.std.proofs.Common.{◌≡◌, arith, ◌++◌, ◌∷◌, [], ℕ, Li
 use Rattle.std.specs.Prelude.{Option}
 use Rattle.std.proofs.lemmas.Result.{err_from_is_err_and}
 use Rattle.sled_log.specs.declared.log.LogError.TheVariants.{Memory, Full}
-use Rattle.sled_disk.specs.Counting.{IsLooked}
+use Rattle.sled_disk.specs.CountedMessages.{IsLooked}
 use Rattle.sled_disk.specs.Cursor.{IsAmong}
 use Rattle.sled_disk.specs.Format.{Record, begin_record}
 use Rattle.sled_disk.specs.Pending.{pending_in}
 use Rattle.sled_disk.specs.Reading.{chains_of}
-use Rattle.sled_disk.specs.Standing.{Stands, records_behind}
-use Rattle.sled_disk.proofs.Adding.{pin-stands, waiting-more}
-use Rattle.sled_disk.specs.Waiting.{place_of, batch_of}
-use Rattle.sled_disk.proofs.Kept.{all-later}
-use Rattle.sled_disk.proofs.Calling.{opens-by, called-refused, called-waits, rests-same}
-use Rattle.sled_disk.proofs.Waiting.{place-is}
-use Rattle.sled_disk.proofs.Written.{open-batch, closed-batch, flag-of}
-use Rattle.sled_disk.proofs.Looked.{looked-more}
-use Rattle.sled_disk.proofs.Unnamed.{among-more, moves-marked}
+use Rattle.sled_disk.specs.LogContents.{Stands, records_behind}
+use Rattle.sled_disk.proofs.Frames.RecordAppend.{pin-stands, waiting-more}
+use Rattle.sled_disk.specs.PendingFrame.{place_of, batch_of}
+use Rattle.sled_disk.proofs.Chains.LogHeads.{all-later}
+use Rattle.sled_disk.proofs.LogCalls.CallOutcomes.{opens-by, called-refused, called-waits, rests-same}
+use Rattle.sled_disk.proofs.Frames.PendingBuffer.{place-is}
+use Rattle.sled_disk.proofs.Frames.WrittenFrame.{open-batch, closed-batch, flag-of}
+use Rattle.sled_disk.proofs.Moves.SearchProgress.{looked-more}
+use Rattle.sled_disk.proofs.Moves.MovesAfterCalls.{among-more, moves-marked}
 use Rattle.sled_disk.proofs.log.calls.DiskLogLog.pin.Goals as goal
 
 pub returns-then-is_full-clause-called : goal.returns-then-is_full-clause-called

@@ -5,7 +5,7 @@ use Rattle.std.specs.List.{Any}
 use Rattle.sled_log.specs.LogState.{now}
 use Rattle.sled_log.specs.Messages.{effect_of_entry}
 use Rattle.sled_log.specs.Pages.{IsAt}
-use Rattle.sled_disk.specs.Waiting.{state_of}
+use Rattle.sled_disk.specs.PendingFrame.{state_of}
 use Rattle.sled_disk.proofs.log.calls.DiskLogLog.read.Goals as goal
 
 pub read_to-requires-clause-known : goal.read_to-requires-clause-known

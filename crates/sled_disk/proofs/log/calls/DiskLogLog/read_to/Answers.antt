@@ -14,18 +14,18 @@ use Rattle.sled_log.specs.Pages.{IsAt, IsReadAs}
 use Rattle.sled_log.specs.Payloads.{payload_in}
 use Rattle.sled_log.specs.declared.log.LogError.{LogError}
 use Rattle.sled_log.specs.declared.log.LogError.TheVariants.{Memory, Full, ReadFault, Corruption}
-use Rattle.sled_disk.specs.declared.head.Head.{Head}
-use Rattle.sled_disk.specs.declared.next_frame.NextFrame.{NextFrame}
-use Rattle.sled_disk.specs.Found.{IsHeadOf}
+use Rattle.sled_disk.specs.declared.recovery.head.Head.{Head}
+use Rattle.sled_disk.specs.declared.format.next_frame.NextFrame.{NextFrame}
+use Rattle.sled_disk.specs.HeadLookup.{IsHeadOf}
 use Rattle.sled_disk.specs.Pending.{state_in}
 use Rattle.sled_disk.specs.Reading.{chains_of}
-use Rattle.sled_disk.specs.Ready.{IsFull}
-use Rattle.sled_disk.proofs.Adding.{same-error}
-use Rattle.sled_disk.proofs.ByPlace.{read-is, known-place, durable-payload, pending-payload, all-at}
-use Rattle.sled_disk.specs.Standing.{records_behind}
-use Rattle.sled_disk.specs.Waiting.{place_of, batch_of}
-use Rattle.sled_disk.proofs.Kept.{found-placed, found-ends}
-use Rattle.sled_disk.proofs.Calling.{called-read, called-unread, rests-same}
+use Rattle.sled_disk.specs.RecoveredLog.{IsFull}
+use Rattle.sled_disk.proofs.Frames.RecordAppend.{same-error}
+use Rattle.sled_disk.proofs.Chains.MessageLookup.{read-is, known-place, durable-payload, pending-payload, all-at}
+use Rattle.sled_disk.specs.LogContents.{records_behind}
+use Rattle.sled_disk.specs.PendingFrame.{place_of, batch_of}
+use Rattle.sled_disk.proofs.Chains.LogHeads.{found-placed, found-ends}
+use Rattle.sled_disk.proofs.LogCalls.CallOutcomes.{called-read, called-unread, rests-same}
 use Rattle.sled_disk.proofs.log.calls.DiskLogLog.read_to.Goals as goal
 
 no_head : Head

@@ -7,16 +7,16 @@ use Rattle.sled_log.specs.Messages.{Chain, effect_of_entry}
 use Rattle.sled_log.specs.Pages.{IsPageState}
 use Rattle.sled_log.specs.Inside.ShapeLaws.{chains-are}
 use Rattle.std.specs.Global.{Vec}
-use Rattle.sled_disk.specs.declared.head.Head.{Head}
-use Rattle.sled_disk.specs.Opened.{AreHeads, IsShown}
+use Rattle.sled_disk.specs.declared.recovery.head.Head.{Head}
+use Rattle.sled_disk.specs.RecoveredHeads.{AreHeads, IsShown}
 use Rattle.sled_disk.specs.Reading.{chains_of}
 use Rattle.sled_disk.specs.Pending.{room_after}
-use Rattle.sled_disk.specs.Standing.{events_in}
-use Rattle.sled_disk.specs.Waiting.{pending_of, batch_of}
-use Rattle.sled_disk.proofs.Adding.{heads-now, bytes}
-use Rattle.sled_disk.proofs.Calling.{called-nothing}
-use Rattle.sled_disk.proofs.Shown.{pages-in}
-use Rattle.sled_disk.proofs.Sized.{stands-sized, waits-small}
+use Rattle.sled_disk.specs.LogContents.{events_in}
+use Rattle.sled_disk.specs.PendingFrame.{pending_of, batch_of}
+use Rattle.sled_disk.proofs.Frames.RecordAppend.{heads-now, bytes}
+use Rattle.sled_disk.proofs.LogCalls.CallOutcomes.{called-nothing}
+use Rattle.sled_disk.proofs.Chains.PageStates.{pages-in}
+use Rattle.sled_disk.proofs.Chains.ChainSizes.{stands-sized, waits-small}
 use Rattle.sled_disk.proofs.log.calls.DiskLogLog.recover.Goals as goal
 
 if_any : {T E A : Type 0} (r : Result T E) → A → OnOk r A

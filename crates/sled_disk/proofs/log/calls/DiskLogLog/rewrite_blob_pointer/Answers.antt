@@ -7,11 +7,11 @@ use Rattle.sled_log.specs.Messages.{Chain}
 use Rattle.sled_log.specs.Moves.{NamesBlob, IsBlob}
 use Rattle.sled_log.specs.Pages.{IsAt}
 use Rattle.sled_log.specs.declared.log.LogError.TheVariants.{Corruption}
-use Rattle.sled_disk.specs.declared.head.Head.{Head}
+use Rattle.sled_disk.specs.declared.recovery.head.Head.{Head}
 use Rattle.sled_disk.specs.Reading.{chains_of}
-use Rattle.sled_disk.specs.Waiting.{batch_of}
-use Rattle.sled_disk.proofs.ByPlace.{known-place}
-use Rattle.sled_disk.proofs.Calling.{called-refused, rests-same}
+use Rattle.sled_disk.specs.PendingFrame.{batch_of}
+use Rattle.sled_disk.proofs.Chains.MessageLookup.{known-place}
+use Rattle.sled_disk.proofs.LogCalls.CallOutcomes.{called-refused, rests-same}
 use Rattle.sled_disk.proofs.log.calls.DiskLogLog.rewrite_blob_pointer.Goals as goal
 
 no_head : Head

@@ -1,18 +1,18 @@
 use Rattle.std.proofs.Common.{◌≡◌, ℕ, List, true, arith, refl, sym, ◌∙◌, ap, subst}
 use Rattle.std.specs.Prelude.{Option}
-use Rattle.sled_disk.specs.Counting.{IsLooked}
+use Rattle.sled_disk.specs.CountedMessages.{IsLooked}
 use Rattle.sled_disk.specs.Cursor.{IsAmong}
 use Rattle.sled_disk.specs.Format.{Record, closing_record}
 use Rattle.sled_disk.specs.Pending.{pending_in}
 use Rattle.sled_disk.specs.Reading.{chains_of}
-use Rattle.sled_disk.specs.Standing.{Stands, records_behind}
-use Rattle.sled_disk.specs.Waiting.{place_of, batch_of}
-use Rattle.sled_disk.proofs.Adding.{closing-stands, waiting-more}
-use Rattle.sled_disk.proofs.Kept.{all-later}
-use Rattle.sled_disk.proofs.Calling.{opens-by, called-waits, rests-same}
-use Rattle.sled_disk.proofs.Written.{open-batch, closed-batch}
-use Rattle.sled_disk.proofs.Looked.{looked-more}
-use Rattle.sled_disk.proofs.Unnamed.{among-more, moves-marked}
+use Rattle.sled_disk.specs.LogContents.{Stands, records_behind}
+use Rattle.sled_disk.specs.PendingFrame.{place_of, batch_of}
+use Rattle.sled_disk.proofs.Frames.RecordAppend.{closing-stands, waiting-more}
+use Rattle.sled_disk.proofs.Chains.LogHeads.{all-later}
+use Rattle.sled_disk.proofs.LogCalls.CallOutcomes.{opens-by, called-waits, rests-same}
+use Rattle.sled_disk.proofs.Frames.WrittenFrame.{open-batch, closed-batch}
+use Rattle.sled_disk.proofs.Moves.SearchProgress.{looked-more}
+use Rattle.sled_disk.proofs.Moves.MovesAfterCalls.{among-more, moves-marked}
 use Rattle.sled_disk.proofs.log.calls.DiskLogLog.seal.Goals as goal
 
 pub seal-requires : goal.seal-requires

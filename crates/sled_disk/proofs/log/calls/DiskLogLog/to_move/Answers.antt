@@ -2,8 +2,8 @@ use Rattle.std.proofs.Common.{refl, sym}
 use Rattle.std.proofs.lemmas.List.{append-nil}
 use Rattle.sled_disk.specs.Pending.{pending_in}
 use Rattle.sled_disk.specs.Reading.{chains_of}
-use Rattle.sled_disk.specs.Waiting.{batch_of}
-use Rattle.sled_disk.proofs.Calling.{called-waits, rests-same}
+use Rattle.sled_disk.specs.PendingFrame.{batch_of}
+use Rattle.sled_disk.proofs.LogCalls.CallOutcomes.{called-waits, rests-same}
 use Rattle.sled_disk.proofs.log.calls.DiskLogLog.to_move.Goals as goal
 
 pub returns-clause-called : goal.returns-clause-called

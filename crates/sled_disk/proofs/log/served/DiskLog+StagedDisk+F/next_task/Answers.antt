@@ -1,9 +1,9 @@
 use Rattle.std.proofs.Common.{ℕ, List, refl, ap, sym, ◌∙◌}
 use Rattle.sled_log.specs.Calls.{Counts}
 use Rattle.sled_disk.specs.CallersFile.{held_after}
-use Rattle.sled_disk.specs.HandedIn.{seen_in}
-use Rattle.sled_disk.specs.Waiting.{state_of}
-use Rattle.sled_disk.proofs.Calling.{opens-by}
+use Rattle.sled_disk.specs.StagedReads.{seen_in}
+use Rattle.sled_disk.specs.PendingFrame.{state_of}
+use Rattle.sled_disk.proofs.LogCalls.CallOutcomes.{opens-by}
 use Rattle.sled_disk.proofs.log.served.DiskLog+StagedDisk+F.next_task.Goals as goal
 
 pub returns-clause-stays : goal.returns-clause-stays

@@ -1,9 +1,9 @@
 use Rattle.sled_pagecache.proofs.Names.{◌≡◌, ℕ, ◌+◌, ◌-◌, ◌<◌, ◌≤◌, List, [], length, take, drop, get_or, slice_index_or, refl, sym, ◌∙◌, ap, subst, arith, rules, to_z, of_z, w64, SFits, to_z-of_z, refused-is, Any, Chain, Entry, IsAt, IsReadAs, Found, CacheInfo, chain_at, take_all, get_or_default}
-use Rattle.sled_pagecache.proofs.ChainReads.{entry_at, info-after, is_at, length-known, no_info, within-after}
-use Rattle.sled_pagecache.proofs.Measuring.{read-more, read-refused}
-use Rattle.sled_pagecache.proofs.Pulls.{first-judged, first-so-far, follow-judged, made-all, next-so-far, reads-judged, reads-one, refused-one}
+use Rattle.sled_pagecache.proofs.Memory.ChainReads.{entry_at, info-after, is_at, length-known, no_info, within-after}
+use Rattle.sled_pagecache.proofs.Sizes.Measurements.{read-more, read-refused}
+use Rattle.sled_pagecache.proofs.Memory.Pulls.{first-judged, first-so-far, follow-judged, made-all, next-so-far, reads-judged, reads-one, refused-one}
 use Rattle.sled_log.specs.Payloads.{payload_in}
-use Rattle.sled_pagecache.specs.Inside.Sizes.{ReadsLog}
+use Rattle.sled_pagecache.specs.Inside.Measurements.{ReadsLog}
 use Rattle.sled_pagecache.proofs.pagecache.memory.chain.read_node.Goals as goal
 
 pub read_to-requires-clause-known : goal.read_to-requires-clause-known
@@ -33,9 +33,9 @@ loop-info-init g c =
           let entry = get_or chain 0 (entry_at no_info) in
           let at = is_at chain infos (c.requires.known known) 0 no_info (to_z w64 (of_z w64 info.lsn)) (to_z-of_z w64 info.lsn fits) in
           let read : IsReadAs entry c.in_ok-kind.kind _ = done.found known 0 (entry_at no_info) within at in
-          first-so-far chain entry found c.first_held-made.result within (sym (get_or_default chain 0 entry (entry_at no_info) within)) ((read.0, c.bytes.ensures ∙ read.1), sym at.1)
-          (c.requires.full known) c.first_held-made.ensures.made c.first_held-made.ensures.refused;
-      judged = first-judged found c.first_held-made.result c.first_held-made.ensures.refused;
+          first-so-far chain entry found c.first_boxed-made.result within (sym (get_or_default chain 0 entry (entry_at no_info) within)) ((read.0, c.bytes.ensures ∙ read.1), sym at.1)
+          (c.requires.full known) c.first_boxed-made.ensures.made c.first_boxed-made.ensures.refused;
+      judged = first-judged found c.first_boxed-made.result c.first_boxed-made.ensures.refused;
       as_full = λ n full. done.room n full;
     }
 

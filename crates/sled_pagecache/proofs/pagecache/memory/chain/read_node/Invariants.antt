@@ -1,7 +1,7 @@
 use Rattle.sled_pagecache.proofs.Names.{◌+◌, ℕ, IfErr, Ok, Result, Refusal, chain_at}
-use Rattle.sled_pagecache.proofs.Pulls.{IsJudged, MakesSoFar}
+use Rattle.sled_pagecache.proofs.Memory.Pulls.{IsJudged, MakesSoFar}
 use Rattle.sled_pagecache.proofs.pagecache.memory.chain.read_node.Given as goal
-use Rattle.sled_pagecache.specs.Inside.Sizes.{ReadsLog}
+use Rattle.sled_pagecache.specs.Inside.Measurements.{ReadsLog}
 
 -- how often the log was read, and what the messages so far make
 abbrev pub invariant-loop-info : goal.invariant-loop-info

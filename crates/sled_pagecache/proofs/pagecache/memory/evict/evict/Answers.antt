@@ -1,5 +1,5 @@
 use Rattle.sled_pagecache.proofs.Names.{rules}
-use Rattle.sled_pagecache.proofs.Evicting.{out-last}
+use Rattle.sled_pagecache.proofs.Memory.Eviction.{out-last}
 use Rattle.sled_pagecache.proofs.pagecache.memory.evict.evict.Goals as goal
 
 pub returns-in-Some-lost : goal.returns-in-Some-lost

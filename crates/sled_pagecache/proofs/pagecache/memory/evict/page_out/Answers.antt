@@ -1,5 +1,5 @@
 use Rattle.sled_pagecache.proofs.Names.{take, take_more}
-use Rattle.sled_pagecache.proofs.Evicting.{out-last}
+use Rattle.sled_pagecache.proofs.Memory.Eviction.{out-last}
 use Rattle.sled_pagecache.proofs.pagecache.memory.evict.page_out.Goals as goal
 
 pub loop-pid-preserved : goal.loop-pid-preserved

@@ -1,6 +1,6 @@
 use Rattle.sled_pagecache.proofs.Names.{◌≡◌, ◌∙◌, List, ap, subst, on_ok_weaker, CacheInfo, WasAccessed, capped_size, size_in, access_size, arith}
-use Rattle.sled_pagecache.proofs.InMemory.{held-accessed, held-listed}
-use Rattle.sled_pagecache.proofs.Sizes.{capped-total}
+use Rattle.sled_pagecache.proofs.Memory.ResidentPages.{held-accessed, held-listed}
+use Rattle.sled_pagecache.proofs.Sizes.ChainSizes.{capped-total}
 use Rattle.sled_pagecache.proofs.pagecache.memory.pull.access_node.Goals as goal
 
 pub returns-in-Node : goal.returns-in-Node

@@ -1,5 +1,5 @@
 use Rattle.sled_pagecache.proofs.Names.{refl, is_resident, arith}
-use Rattle.sled_pagecache.proofs.ReadCounts.{read-all}
+use Rattle.sled_pagecache.proofs.Memory.ReadCounts.{read-all}
 use Rattle.sled_pagecache.proofs.pagecache.memory.pull.pull_and_access.Goals as goal
 
 pub returns-then-is_err-clause-pulled : goal.returns-then-is_err-clause-pulled

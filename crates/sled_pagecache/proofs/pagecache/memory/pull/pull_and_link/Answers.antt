@@ -1,13 +1,14 @@
-use Rattle.sled_pagecache.proofs.Names.{[], refl, ◌∙◌, Result, Err, Refusal, refused-is, Went-then, is_resident, arith}
-use Rattle.sled_pagecache.proofs.Linking.{taken, refused, caused}
-use Rattle.sled_pagecache.proofs.ReadCounts.{read-all}
-use Rattle.sled_pagecache.proofs.Tables.{marks-begun}
+use Rattle.sled_pagecache.proofs.Names.{List, [], refl, ◌∙◌, ap, length, nat_lt, Result, Err, Refusal, refused-is, Went-then, is_resident, arith}
+use Rattle.sled_pagecache.proofs.Links.PulledLinks.{taken, refused, caused}
+use Rattle.sled_pagecache.proofs.Memory.ReadCounts.{read-all}
+use Rattle.sled_pagecache.proofs.Table.ChangedTables.{marks-begun}
 use Rattle.sled_pagecache.proofs.pagecache.memory.pull.pull_and_link.Goals as goal
 
 pub returns-in-Ok : goal.returns-in-Ok
 returns-in-Ok g c =
     let read = c.in_ok-pull.ensures.pulled in
     let done = c.in-Ok.ensures in
+    let joined = done.joined ∙ ap (λ (l : List _). nat_lt (length l) 10) read.infos in
     let taken = taken g.L.Log c.link_page.new.sticky_log c.args.pid c.args.page.now c.link_page.new.page c.args.link.now read.went read.cause.fault read.same read.kept read.stamp read.infos read.resident c.pull.new.page.kept (λ told. (read.kept told).holds) done.linked done.is done.went done.stamp done.kept done.len done.others done.sized in
     grind arith
 

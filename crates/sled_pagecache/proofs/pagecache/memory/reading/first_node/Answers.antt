@@ -1,5 +1,5 @@
 use Rattle.sled_pagecache.proofs.Names.{IfErr-weaker, arith}
-use Rattle.sled_pagecache.proofs.FoundMessages.{refuses_so}
+use Rattle.sled_pagecache.proofs.Memory.FoundMessages.{refuses_so}
 use Rattle.sled_pagecache.proofs.pagecache.memory.reading.first_node.Goals as goal
 
 pub returns-in-InlineNode-clause-refused : goal.returns-in-InlineNode-clause-refused

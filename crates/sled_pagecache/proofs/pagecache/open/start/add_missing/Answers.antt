@@ -1,13 +1,13 @@
 use Rattle.sled_pagecache.proofs.Names.{append-nil, ◌<◌, List, length, None, subst, sym, rules, Ok, Err, Event, Message, events_at_start, Proceeds, refused-is, drop_all, roots_event, counter_event, events_of_roots, slice_get_past, ◌∙◌, ◌∷◌, [], arith}
-use Rattle.sled_pagecache.proofs.Proceeding.{proceeds-none, proceeds-first}
-use Rattle.sled_pagecache.proofs.Starting.{events-split, missing-both, missing-stable, stays-closed, changes-closed}
+use Rattle.sled_pagecache.proofs.CacheLog.LogCalls.{proceeds-none, proceeds-first}
+use Rattle.sled_pagecache.proofs.Opening.OpenedPages.{events-split, missing-both, missing-stable, stays-closed, changes-closed}
 use Rattle.sled_pagecache.proofs.pagecache.open.start.add_missing.Goals as goal
 
 pub returns-then-len-gt1-clause-proceeds : goal.returns-then-len-gt1-clause-proceeds
 returns-then-len-gt1-clause-proceeds g c =
     let sticky_log = c.args.sticky_log.now in
     subst (λ (l : List (Event Message)). Proceeds g.L.Log sticky_log sticky_log l None) (sym (drop_all (length c.args.pages.now.pages) (roots_event ∷ counter_event ∷ []) (search rules)))
-    (proceeds-none g.L.Log sticky_log (g.met.L.Log.only_now sticky_log.log) c.requires.ready c.requires.usable)
+    (proceeds-none g.L.Log sticky_log (g.met.L.Log.only_now sticky_log.log) c.requires.ready.clear c.requires.ready.usable)
 
 pub returns-in_err-add_roots-clause-proceeds : goal.returns-in_err-add_roots-clause-proceeds
 returns-in_err-add_roots-clause-proceeds g c =

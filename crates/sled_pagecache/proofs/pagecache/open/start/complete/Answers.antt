@@ -1,7 +1,7 @@
 use Rattle.sled_pagecache.proofs.Names.{append-nil, [], length, TableView, ap, rules, OutOfMemory, events_at_start, nat_tests, by-id-all, ◌∙◌, sym, arith, IfSome_then, slice_get, past-two, IsRoots, IsUnread}
-use Rattle.sled_pagecache.proofs.Counted.{opened-counted}
-use Rattle.sled_pagecache.proofs.Proceeding.{proceeds-refused}
-use Rattle.sled_pagecache.proofs.Starting.{all-kept, all-fresh, stays-closed, changes-closed, opened-with}
+use Rattle.sled_pagecache.proofs.Ids.DurableCounter.{opened-counted}
+use Rattle.sled_pagecache.proofs.CacheLog.LogCalls.{proceeds-refused}
+use Rattle.sled_pagecache.proofs.Opening.OpenedPages.{all-kept, all-fresh, stays-closed, changes-closed, opened-with}
 use Rattle.sled_pagecache.proofs.pagecache.open.start.complete.Goals as goal
 
 pub add_missing-requires-clause-table : goal.add_missing-requires-clause-table

@@ -1,8 +1,8 @@
 use Rattle.sled_pagecache.proofs.Names.{List, subst, ◌≡◌, [], length, None, Some, ap, arith, AllZip-long, Corruption, Chain, effect_of_entry, now, own_among, IsLoaded, RefusesPages, refused-is, zip-second, slice_get_within}
-use Rattle.sled_pagecache.proofs.Proceeding.{proceeds-then, proceeds-refused}
-use Rattle.sled_pagecache.proofs.ReadCounts.{read-loaded, read-then}
-use Rattle.sled_pagecache.proofs.OwnPages.{misfit-unfit, first-pointer}
-use Rattle.sled_pagecache.proofs.Starting.{amiss-refuses, fits-at}
+use Rattle.sled_pagecache.proofs.CacheLog.LogCalls.{proceeds-then, proceeds-refused}
+use Rattle.sled_pagecache.proofs.Memory.ReadCounts.{read-loaded, read-then}
+use Rattle.sled_pagecache.proofs.Opening.OwnPages.{misfit-unfit, first-pointer}
+use Rattle.sled_pagecache.proofs.Opening.OpenedPages.{amiss-refuses, fits-at}
 use Rattle.sled_pagecache.proofs.pagecache.open.start.load.Goals as goal
 
 pub returns-in_err-counter-clause-proceeds : goal.returns-in_err-counter-clause-proceeds

@@ -1,6 +1,6 @@
 use Rattle.sled_pagecache.proofs.Names.{List, ◌∙◌, [], refl, ap, on_ok_weaker, AllZip-long, Chain, effect_of_entry, now, IsLoaded, events_at_start, refused-is, drop, roots_event, counter_event, ◌∷◌, length, arith}
-use Rattle.sled_pagecache.proofs.Proceeding.{proceeds-then, proceeds-first}
-use Rattle.sled_pagecache.proofs.Starting.{changes-closed, stays-closed}
+use Rattle.sled_pagecache.proofs.CacheLog.LogCalls.{proceeds-then, proceeds-first}
+use Rattle.sled_pagecache.proofs.Opening.OpenedPages.{changes-closed, stays-closed}
 use Rattle.sled_pagecache.proofs.pagecache.open.start.open.Goals as goal
 
 pub complete-requires-clause-closed : goal.complete-requires-clause-closed

@@ -1,8 +1,8 @@
 use Rattle.sled_pagecache.proofs.Names.{slice_get, get_or_from_slice_get, ◌≡◌, [], length, refl, sym, ◌∙◌, ap, arith, slice_get_within, count_after, own_among, refused-is, zip-second, other-at, past-end, IsLoaded, Roots, Counter}
-use Rattle.sled_pagecache.proofs.Proceeding.{proceeds-then}
-use Rattle.sled_pagecache.proofs.ReadCounts.{own-is, read-then}
-use Rattle.sled_pagecache.proofs.RecoveredPages.{if-some}
-use Rattle.sled_pagecache.proofs.Starting.{read-page, found-first, found-both, own-refuses}
+use Rattle.sled_pagecache.proofs.CacheLog.LogCalls.{proceeds-then}
+use Rattle.sled_pagecache.proofs.Memory.ReadCounts.{own-is, read-then}
+use Rattle.sled_pagecache.proofs.Opening.RecoveredPages.{if-some}
+use Rattle.sled_pagecache.proofs.Opening.OpenedPages.{read-page, found-first, found-both, own-refuses}
 use Rattle.sled_pagecache.proofs.pagecache.open.start.read_system_pages.Goals as goal
 
 pub returns-in_err-roots-clause-refused : goal.returns-in_err-roots-clause-refused

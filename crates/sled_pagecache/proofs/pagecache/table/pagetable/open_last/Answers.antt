@@ -1,5 +1,5 @@
 use Rattle.std.proofs.Common.{◌≡◌, ◌++◌, ◌∙◌, false, List, ap, sym, subst, arith, append-nil, lt-ltb}
-use Rattle.sled_pagecache.proofs.PageChunks.{pages-push, filled-more, at_last-push}
+use Rattle.sled_pagecache.proofs.Table.PageChunks.{pages-push, filled-more, at_last-push}
 use Rattle.sled_pagecache.proofs.Names.{Page, chunk_length, pages_in, AreFilled, at_last, is_unfilled}
 use Rattle.sled_pagecache.proofs.pagecache.table.pagetable.open_last.Goals as goal
 

@@ -1,5 +1,5 @@
 use Rattle.sled_pagecache.proofs.Names.{rules, [], ◌∷◌, subst, length, DiskPtr, ℕ, ℤ, Change, CacheInfo, message, Went, IsCaused-handed_on, refused-is}
-use Rattle.sled_pagecache.proofs.Linked.{begun-handed}
+use Rattle.sled_pagecache.proofs.Links.LinkedChains.{begun-handed}
 use Rattle.sled_pagecache.proofs.pagecache.write.message.write_payload.Goals as goal
 
 pub returns-in_err-lsn : goal.returns-in_err-lsn

@@ -2,7 +2,7 @@ use Rattle.std.proofs.Common.{[], ◌∷◌, ap, ◌∙◌}
 use Rattle.sled_disk.specs.CallersFile.{bytewise}
 use Rattle.sled_disk.specs.DiskMemory.{calls_of}
 use Rattle.sled_disk.specs.Journal.{Sync}
-use Rattle.sled_disk.proofs.Told.{bytewise-append}
+use Rattle.sled_disk.proofs.StagedDisks.TaskReports.{bytewise-append}
 use Rattle.sled_disk.proofs.disk.memory.files.MemDiskCallersFile.sync.Goals as goal
 
 pub returns-in-Ok-clause-done : goal.returns-in-Ok-clause-done

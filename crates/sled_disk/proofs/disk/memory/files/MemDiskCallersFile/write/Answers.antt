@@ -3,7 +3,7 @@ use Rattle.std.proofs.lemmas.List.{append-nil}
 use Rattle.sled_disk.specs.CallersFile.{bytewise, writes_of}
 use Rattle.sled_disk.specs.DiskMemory.{calls_of}
 use Rattle.sled_disk.specs.Journal.{DiskCall, Write}
-use Rattle.sled_disk.proofs.Told.{bytewise-append}
+use Rattle.sled_disk.proofs.StagedDisks.TaskReports.{bytewise-append}
 use Rattle.sled_disk.proofs.disk.memory.files.MemDiskCallersFile.write.Goals as goal
 
 pub returns-in-Ok-clause-done : goal.returns-in-Ok-clause-done

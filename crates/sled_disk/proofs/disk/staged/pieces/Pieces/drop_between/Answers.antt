@@ -1,8 +1,8 @@
 use Rattle.std.proofs.Common.{◌≡◌, rules}
 use Rattle.std.specs.List.{filter}
 use Rattle.std.proofs.lemmas.Fn.{filter_same}
-use Rattle.sled_disk.specs.HandedIn.{is_outside}
-use Rattle.sled_disk.proofs.HandedIn.{pieces-left}
+use Rattle.sled_disk.specs.StagedReads.{is_outside}
+use Rattle.sled_disk.proofs.StagedDisks.StagedReads.{pieces-left}
 use Rattle.sled_disk.proofs.disk.staged.pieces.Pieces.drop_between.Goals as goal
 
 -- what was kept lies outside

@@ -1,5 +1,5 @@
 use Rattle.std.proofs.Common.{◌≤◌, ◌<◌, ◌≡◌, ◌+◌, ℕ, List, length, get_or}
-use Rattle.sled_disk.specs.HandedIn.{ArePieces}
+use Rattle.sled_disk.specs.StagedReads.{ArePieces}
 use Rattle.sled_disk.proofs.disk.staged.pieces.Pieces.read.Given as goal
 
 -- what was copied are the file's bytes

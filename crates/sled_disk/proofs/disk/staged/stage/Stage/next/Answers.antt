@@ -1,6 +1,6 @@
 use Rattle.sled_disk.specs.Tasks.{tasks_in}
-use Rattle.sled_disk.proofs.HandedIn.{seen-next, still-next}
-use Rattle.sled_disk.proofs.Told.{held-next}
+use Rattle.sled_disk.proofs.StagedDisks.StagedReads.{seen-next, still-next}
+use Rattle.sled_disk.proofs.StagedDisks.TaskReports.{held-next}
 use Rattle.sled_disk.proofs.disk.staged.stage.Stage.next.Goals as goal
 
 pub returns-in-Ok-clause-seen : goal.returns-in-Ok-clause-seen

@@ -1,5 +1,5 @@
 use Rattle.sled_disk.specs.Tasks.{tasks_in}
-use Rattle.sled_disk.proofs.HandedIn.{seen-sync, still-sync}
+use Rattle.sled_disk.proofs.StagedDisks.StagedReads.{seen-sync, still-sync}
 use Rattle.sled_disk.proofs.disk.staged.stage.Stage.sync.Goals as goal
 
 pub returns-clause-seen : goal.returns-clause-seen

@@ -1,6 +1,6 @@
-use Rattle.sled_disk.specs.HandedIn.{seen_in}
+use Rattle.sled_disk.specs.StagedReads.{seen_in}
 use Rattle.sled_disk.specs.Tasks.{tasks_in}
-use Rattle.sled_disk.proofs.HandedIn.{stands-after}
+use Rattle.sled_disk.proofs.StagedDisks.StagedReads.{stands-after}
 use Rattle.sled_disk.proofs.disk.staged.stage.Stage.take_in.Goals as goal
 
 pub returns-clause-pieces : goal.returns-clause-pieces

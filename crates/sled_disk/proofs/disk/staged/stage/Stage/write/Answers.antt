@@ -2,7 +2,7 @@ use Rattle.std.proofs.Common.{◌≡◌, ◌<◌, ◌++◌, [], ◌∷◌, lengt
 use Rattle.sled_disk.specs.Disk.{overlaid}
 use Rattle.sled_disk.specs.Journal.{Write}
 use Rattle.sled_disk.specs.Tasks.{tasks_in}
-use Rattle.sled_disk.proofs.HandedIn.{same-overlaid, seen-write, still-write}
+use Rattle.sled_disk.proofs.StagedDisks.StagedReads.{same-overlaid, seen-write, still-write}
 use Rattle.sled_disk.proofs.disk.staged.stage.Stage.write.Goals as goal
 
 pub returns-clause-pieces : goal.returns-clause-pieces

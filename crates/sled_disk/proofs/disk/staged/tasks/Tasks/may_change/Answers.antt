@@ -1,5 +1,5 @@
 use Rattle.std.proofs.Common.{rules, drop, inl, inr}
-use Rattle.sled_disk.proofs.Staged.{leaves-tasks}
+use Rattle.sled_disk.proofs.StagedDisks.StagedTasks.{leaves-tasks}
 use Rattle.sled_disk.proofs.disk.staged.tasks.Tasks.may_change.Goals as goal
 
 pub returns-then-from-self : goal.returns-then-from-self

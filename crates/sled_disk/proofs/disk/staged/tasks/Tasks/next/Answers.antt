@@ -1,7 +1,7 @@
 use Rattle.std.proofs.Common.{rules, ◌≡◌, ◌++◌, ℕ, ◌∷◌, length, take, drop, false, List, refl, ◌∙◌, ap₂, arith, inr}
 use Rattle.std.proofs.lemmas.List.{length-take, take_at}
-use Rattle.sled_disk.proofs.Staged.{part-handed_out, same-whole, whole-part, between-later, between-part}
-use Rattle.sled_disk.proofs.Told.{first-fits, told-same}
+use Rattle.sled_disk.proofs.StagedDisks.StagedTasks.{part-handed_out, same-whole, whole-part, between-later, between-part}
+use Rattle.sled_disk.proofs.StagedDisks.TaskReports.{first-fits, told-same}
 use Rattle.sled_disk.proofs.disk.staged.tasks.Tasks.next.Goals as goal
 
 pub invariant_of-self-then-first-clause-around : goal.invariant_of-self-then-first-clause-around

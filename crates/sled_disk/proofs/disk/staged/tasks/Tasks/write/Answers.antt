@@ -1,5 +1,5 @@
 use Rattle.std.proofs.Common.{refl, rules}
-use Rattle.sled_disk.proofs.Staged.{tasks-write}
+use Rattle.sled_disk.proofs.StagedDisks.StagedTasks.{tasks-write}
 use Rattle.sled_disk.proofs.disk.staged.tasks.Tasks.write.Goals as goal
 
 pub returns-clause-added : goal.returns-clause-added

@@ -1,6 +1,6 @@
 use Rattle.sled_pagecache.proofs.Names.{Some, length, ap, arith}
-use Rattle.sled_pagecache.proofs.PageChunks.{got-is}
-use Rattle.sled_pagecache.proofs.PageTables.{none-at, page-in}
+use Rattle.sled_pagecache.proofs.Table.PageChunks.{got-is}
+use Rattle.sled_pagecache.proofs.Table.PageTables.{none-at, page-in}
 use Rattle.sled_pagecache.proofs.pagecache.table.pagetable.PageTable.get.Goals as goal
 
 pub returns-in_err-get : goal.returns-in_err-get

@@ -1,6 +1,6 @@
 use Rattle.sled_pagecache.proofs.Names.{refl, arith, ap, sym, ◌∙◌, slice_get, TableView}
 use Rattle.sled_pagecache.specs.Lending.{with_page}
-use Rattle.sled_pagecache.proofs.PageTables.{chunk-within, page-within, page-is, stays-table, seen-after}
+use Rattle.sled_pagecache.proofs.Table.PageTables.{chunk-within, page-within, page-is, stays-table, seen-after}
 use Rattle.sled_pagecache.proofs.pagecache.table.pagetable.PageTable.get_mut.Goals as goal
 
 pub index_mut-chunk-requires : goal.index_mut-chunk-requires

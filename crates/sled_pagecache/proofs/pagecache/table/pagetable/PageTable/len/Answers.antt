@@ -1,5 +1,5 @@
 use Rattle.sled_pagecache.proofs.Names.{length, ap, arith, TableView}
-use Rattle.sled_pagecache.proofs.PageTables.{table-length}
+use Rattle.sled_pagecache.proofs.Table.PageTables.{table-length}
 use Rattle.sled_pagecache.proofs.pagecache.table.pagetable.PageTable.len.Goals as goal
 
 pub overflow_mul-result : goal.overflow_mul-result

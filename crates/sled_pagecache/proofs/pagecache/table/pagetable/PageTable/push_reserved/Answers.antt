@@ -1,5 +1,5 @@
 use Rattle.sled_pagecache.proofs.Names.{◌∷◌, ◌++◌, ◌∙◌, [], length, ap, arith, TableView, has_room, chunk_length}
-use Rattle.sled_pagecache.proofs.PageTables.{grown, room-in}
+use Rattle.sled_pagecache.proofs.Table.PageTables.{grown, room-in}
 use Rattle.sled_pagecache.proofs.pagecache.table.pagetable.PageTable.push_reserved.Goals as goal
 
 pub invariant_of-self : goal.invariant_of-self

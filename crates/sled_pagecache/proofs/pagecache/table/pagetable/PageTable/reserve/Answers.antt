@@ -1,5 +1,5 @@
 use Rattle.sled_pagecache.proofs.Names.{◌∙◌, [], ap, sym, arith, append-nil, on_ok_weaker, chunk_length, length, TableView, IsPageTable, is_unfilled}
-use Rattle.sled_pagecache.proofs.PageTables.{grown, room-after}
+use Rattle.sled_pagecache.proofs.Table.PageTables.{grown, room-after}
 use Rattle.sled_pagecache.proofs.pagecache.table.pagetable.PageTable.reserve.Goals as goal
 
 pub invariant_of-self-2 : goal.invariant_of-self-2

@@ -1,9 +1,9 @@
 use Rattle.sled_pagecache.proofs.Names.{refl, rules}
-use Rattle.sled_pagecache.proofs.StickyLogs.{quiet}
+use Rattle.sled_pagecache.proofs.CacheLog.StickyLogs.{quiet}
 use Rattle.sled_pagecache.proofs.pagecache.write.sticky_log.StickyLog.make_stable.Goals as goal
 
 pub returns : goal.returns
 returns g c =
     let new = record c.args.self.now { log = c.make_stable-outcome.new.self; fault = c.keep_fault.new.fault } in
-    let done = quiet g.L.Log c.args.self.now new c.make_stable-outcome.ensures.called c.requires.ready c.keep_fault.ensures.kept refl in
+    let done = quiet g.L.Log c.args.self.now new c.make_stable-outcome.ensures.called c.requires.ready.clear c.keep_fault.ensures.kept refl in
     search (rules, done)

@@ -1,0 +1,28 @@
+-- A reader that can resume.
+use Rattle.std.specs.Prelude.{◌≡◌, ℕ, List, length, take, drop, Option, None, Some}
+use Rattle.sled_disk.specs.declared.recovery.head.Head.{Head}
+use Rattle.sled_disk.specs.declared.reader.Reader.{Reader}
+use Rattle.sled_disk.specs.Format.{Begun, opening}
+use Rattle.sled_disk.specs.UnreadBytes.{left_at}
+use Rattle.sled_disk.specs.Reading.{Read, chains_of, start, found_at}
+use Rattle.sled_disk.specs.BatchChanges.{taken_by}
+
+-- the batch that is begun, by its place and its changes
+abbrev pub begun_by : Option ℕ → List (ℕ × Head) → Option (Begun Head)
+begun_by None inside = None
+begun_by (Some place) inside = Some (record { place = place; inside = inside })
+
+-- how far it has read
+abbrev pub read_by : Reader → Read
+read_by reader = record { settled = chains_of reader.pages.items; begun = begun_by reader.begun reader.changes.items }
+
+-- what the waiting changes make of the pages
+abbrev pub waiting_by : Reader → Option (List (List Head))
+waiting_by reader = taken_by (chains_of reader.pages.items) reader.changes.items
+
+-- A reader resumes in these bytes: from what it has read, the rest of them leads to the same result as reading all of them.
+pub record GoesOn (bytes : List ℕ) (reader : Reader) : Type 0 where
+  pub opens : take 8 bytes ≡ opening
+  pub end : reader.end ≡ length bytes
+  pub shows : reader.window.bytes.items ≡ take (length reader.window.bytes.items) (drop reader.window.start bytes)
+  pub left : left_at bytes reader.at reader.body_end reader.targets (read_by reader) ≡ found_at 8 start (drop 8 bytes)

@@ -1,8 +1,0 @@
--- Pairs that can be stored make a well-formed node.
-use Rattle.sled_handle.proofs.Leaves.{leaf_found}
-use Rattle.sled_handle.proofs.pairs.read.leaf_of.Goals as goal
-
-pub returns : goal.returns
-returns c =
-    let has = rw c.in-Some.is at c.in_ok-leaf.ensures.value in
-    leaf_found c.args.pairs.items c.from_parts.result has.0 (rw (c.default-lo.ensures, c.default-hi.ensures, has.1) at c.from_parts.ensures)

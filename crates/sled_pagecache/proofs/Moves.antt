@@ -1,0 +1,5 @@
+-- The moves of pages.
+pub mod PageMoves
+pub mod MovedPages
+pub mod MoveAttempts
+pub mod AddedMoves

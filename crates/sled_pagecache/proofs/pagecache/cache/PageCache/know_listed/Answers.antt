@@ -1,4 +1,0 @@
-use Rattle.sled_pagecache.proofs.pagecache.cache.PageCache.know_listed.Goals as goal
-
-pub returns : goal.returns
-returns g c = rw (← c.self.view_is) c.self.invariant.bounded

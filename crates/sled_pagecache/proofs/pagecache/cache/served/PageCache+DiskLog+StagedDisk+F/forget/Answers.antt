@@ -1,5 +1,0 @@
-use Rattle.sled_pagecache.proofs.Served.{settled-over}
-use Rattle.sled_pagecache.proofs.pagecache.cache.served.PageCache+DiskLog+StagedDisk+F.forget.Goals as goal
-
-pub invariant_of-self : goal.invariant_of-self
-invariant_of-self g c = settled-over _ _ _ _ c.self.inside.sticky_log _ _ _ _ c.forget.ensures.stays c.self.invariant

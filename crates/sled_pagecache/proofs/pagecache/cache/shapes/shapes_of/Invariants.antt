@@ -1,6 +1,0 @@
--- The pages so far stand in their shapes.
-use Rattle.sled_pagecache.proofs.Names.{◌≡◌, map, take, shape_of_kept}
-use Rattle.sled_pagecache.proofs.pagecache.cache.shapes.shapes_of.Given as goal
-
-abbrev pub invariant-loop-pid : goal.invariant-loop-pid
-invariant-loop-pid l = l.shapes.items ≡ map shape_of_kept (take l.pid l.pages.pages)

@@ -1,6 +1,0 @@
-use Rattle.sled_pagecache.proofs.Names.{ap, ◌∙◌, ℕ, List, is_at, nat_cmp, remove_key}
-use Rattle.sled_pagecache.proofs.FreeIds.{back}
-use Rattle.sled_pagecache.proofs.pagecache.table.free.FreeIds.take_back.Goals as goal
-
-pub returns : goal.returns
-returns c = λ before lacks is. c.remove.ensures.keys ∙ ap (λ (l : List ℕ). remove_key (is_at (nat_cmp c.args.pid)) l) is ∙ back c.args.pid before lacks
