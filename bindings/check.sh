@@ -19,26 +19,40 @@ compile() {
 # A program may be compiled with more warnings than these, or as C++.
 strict='-Wall -Wextra -Wpedantic -Wconversion -Wsign-conversion -Wshadow -Werror -fsyntax-only'
 # shellcheck disable=SC2086 # options
-"${CC:-cc}" -std=c11 $strict -x c -I"$out" "$out/dilluvas_file.h" "$out/dilluvas_file.c"
+"${CC:-cc}" -std=c11 $strict -x c -I"$out" "$out/dilluvas_file.h" "$out/dilluvas_file.c" "$out/dilluvas_rewriting.h" "$here/c/dilluvas_rewriting.c"
 if command -v "${CXX:-c++}" >/dev/null; then
     # shellcheck disable=SC2086 # options
-    "${CXX:-c++}" -std=c++11 $strict -x c++ -I"$out" "$out/dilluvas_file.h"
+    "${CXX:-c++}" -std=c++11 $strict -x c++ -I"$out" "$out/dilluvas_file.h" "$out/dilluvas_rewriting.h"
 fi
 
 compile calls
 "$out/calls"
 files=$(mktemp -d)
-trap 'rm -rf "$files"' EXIT
-chmod 755 "$files"
+# Programs that flush after each few changes have their files in memory where the system has a place for that: a disk takes some milliseconds
+# for each sync. They kill processes, and take the power from no machine.
+quick=$files
+[ ! -d /dev/shm ] || quick=$(mktemp -d /dev/shm/dilluvas.XXXXXX)
+trap 'rm -rf "$files" "$quick"' EXIT
+chmod 755 "$files" "$quick"
 compile no_memory "$out/dilluvas_file.c" -Wl,--wrap=malloc,--wrap=calloc,--wrap=realloc,--wrap=free
-"$out/no_memory" "$files"
+"$out/no_memory" "$quick"
 failing=-Wl,--wrap=pread,--wrap=pwrite,--wrap=fdatasync,--wrap=fsync,--wrap=rename,--wrap=link
 compile file "$here/c/failing.c" "$out/dilluvas_file.c" "$failing"
 "$out/file" "$files"
-for name in compact compact_failing space full_disk abandoned processes; do
+for name in compact compact_failing full_disk abandoned processes; do
     compile "$name" "$here/c/steps.c" "$here/c/failing.c" "$out/dilluvas_file.c" "$failing"
     "$out/$name" "$files"
 done
+for name in space rewriting; do
+    compile "$name" "$here/c/steps.c" "$here/c/failing.c" "$out/dilluvas_file.c" "$failing"
+    "$out/$name" "$quick"
+done
+for name in space_steps space_processes space_failing; do
+    compile "$name" "$here/c/steps.c" "$here/c/stepping.c" "$here/c/failing.c" "$out/dilluvas_file.c" "$failing"
+    "$out/$name" "$quick"
+done
+compile rewriting_damaged "$here/c/steps.c" "$here/c/by_hand.c" "$here/c/failing.c" "$out/dilluvas_file.c" "$failing"
+"$out/rewriting_damaged" "$quick"
 compile sizes "$here/c/steps.c" "$here/c/failing.c" "$out/dilluvas_file.c" "$failing"
 "$out/sizes" "$files"
 compile meanwhile "$here/c/steps.c" "$here/c/failing.c" "$out/dilluvas_file.c" "$failing,--wrap=open"
@@ -58,8 +72,9 @@ compile example_job_queue "$out/dilluvas_file.c" -Wconversion
 compile script "$here/c/script_lines.c" "$out/dilluvas_file.c"
 awk -v seed=1 -v lines=300 -v parts=1 -v name="$files/script" -v over_file=0 -v moves=1 -f "$here/scripts.awk"
 if command -v valgrind >/dev/null; then
-    for program in calls "no_memory $files" "file $files" "compact $files" \
-        "compact_failing $files" "space $files" "full_disk $files" "maps $files" "maps_model $files 400" "abandoned $files" "processes $files" "meanwhile $files" "paths $files" 'script mem' "script file $files/log"; do
+    for program in calls "no_memory $quick" "file $files" "compact $files" \
+        "compact_failing $files" "space $quick" "rewriting $quick 1" "rewriting_damaged $quick 100" "space_steps $quick" \
+        "space_processes $quick" "space_failing $quick" "full_disk $files" "maps $files" "maps_model $files 400" "abandoned $files" "processes $files" "meanwhile $files" "paths $files" 'script mem' "script file $files/log"; do
         # shellcheck disable=SC2086 # a program and its arguments
         valgrind -q --child-silent-after-fork=yes --error-exitcode=1 --leak-check=full --show-leak-kinds=all "$out/"$program \
             <"$files/script.1" >/dev/null
@@ -81,7 +96,7 @@ if command -v python3 >/dev/null; then
     # the loop in Python and then that in C, with failing devices and refused memory
     DILLUVAS_SO=$out/libdilluvas.so python3 "$here/python/model.py"
     "${CC:-cc}" -std=c11 -Wall -Wextra -Wpedantic -Werror -O2 -fPIC -shared -o "$out/libhooked.so" "$here/c/hooks.c" -I"$out" \
-        -Wl,--whole-archive "$out/libdilluvas.a" -Wl,--no-whole-archive -Wl,--wrap=malloc,--wrap=calloc,--wrap=realloc
+        -Wl,--whole-archive "$out/libdilluvas.a" -Wl,--no-whole-archive -Wl,--wrap=malloc,--wrap=calloc,--wrap=realloc,--wrap=pread,--wrap=pwrite
     DILLUVAS_SO=$out/libhooked.so python3 "$here/python/model.py" 0 50
     for name in dilluvas hooked; do
         DILLUVAS_SO=$out/lib$name.so python3 "$here/python/abandoned.py"
@@ -92,3 +107,4 @@ fi
 "$here/readme.sh"
 echo "README's sessions: passed"
 "$here/scripts.sh"
+DILLUVAS_LIB_DIR=$out CARGO_TARGET_DIR=$out/target "$here/replicated/check.sh"

@@ -193,17 +193,39 @@ static void the_library_says_what_it_wants(void) {
     IS(size, 53);
     IS(dilluvas_close(&into), DILLUVAS_OK);
 
-    /* where a write failed, or a batch is open, the other handle is closed */
+    IS(dilluvas_close(&d), DILLUVAS_OK);
+}
+
+/* A handle with a new log, by hand, in a file that has its first bytes. */
+static dilluvas with_a_new_log(void) {
+    dilluvas into = DILLUVAS_CLOSED;
+    dilluvas_task task = {0, 0, 0};
+    uint8_t buffer[256] = {0};
     IS(dilluvas_new_log(&into, &over_file), DILLUVAS_NEEDS);
     IS(dilluvas_next_task(&into, &task, buffer, sizeof buffer), DILLUVAS_OK);
     IS(dilluvas_next_task(&into, &task, buffer, sizeof buffer), DILLUVAS_OK);
-    IS(dilluvas_hand_in(&into, 0, bytes, 8), DILLUVAS_OK);
-    IS(dilluvas_hand_in(&into, 8, (const uint8_t *)"", 1), DILLUVAS_OK);
+    IS(dilluvas_hand_in(&into, 0, (const uint8_t *)"SLPCLOG1", 9), DILLUVAS_OK);
     IS(dilluvas_new_log(&into, &over_file), DILLUVAS_OK);
+    return into;
+}
+
+/* The other handle is closed where a batch is open. It stays where a write of the cache's own file had failed. */
+static void the_other_handle_is_left(void) {
+    dilluvas d = DILLUVAS_CLOSED, into = with_a_new_log();
+    IS(dilluvas_open_memory(&d, &in_memory), DILLUVAS_OK);
     IS(dilluvas_pin(&d), DILLUVAS_OK);
     IS(dilluvas_rewrite(&d, &into), DILLUVAS_BATCH_OPEN);
     IS(dilluvas_close(&into), DILLUVAS_NOT_OPEN);
+
+    dilluvas_file file = opened();
+    into = with_a_new_log();
+    IS(dilluvas_failed(&file.cache), DILLUVAS_OK);
+    IS(dilluvas_rewrite(&file.cache, &into), DILLUVAS_WRITE);
+    IS(dilluvas_cancel(&d), DILLUVAS_OK);
+    IS(dilluvas_rewrite(&d, &into), DILLUVAS_OK);
+    IS(dilluvas_close(&into), DILLUVAS_OK);
     IS(dilluvas_close(&d), DILLUVAS_OK);
+    end(&file);
 }
 
 /* ---- Many pages. */
@@ -234,6 +256,7 @@ int main(int count, char **arguments) {
     caches_are_rewritten();
     refusals_are_told();
     the_library_says_what_it_wants();
+    the_other_handle_is_left();
     many_pages_are_read_together();
     if (failures == 0) printf("rewriting: passed\n");
     return failures != 0;

@@ -2,6 +2,7 @@
 #define _GNU_SOURCE /* fallocate, beside what POSIX has */
 #endif
 #include "dilluvas_file.h"
+#include "dilluvas_rewriting.h"
 #include <errno.h>
 #include <fcntl.h>
 #include <limits.h>
@@ -33,43 +34,6 @@ static bool is_own(const dilluvas_file *file) {
     return file->process == getpid();
 }
 
-static bool write_all(int descriptor, const uint8_t *bytes, size_t len, uint64_t at) {
-    struct rlimit limit;
-    /* a write beyond it would raise a signal, which ends the process */
-    if (getrlimit(RLIMIT_FSIZE, &limit) == 0 && limit.rlim_cur != RLIM_INFINITY && at + len > limit.rlim_cur) {
-        errno = EFBIG;
-        return false;
-    }
-    while (len > 0) {
-        ssize_t written = pwrite(descriptor, bytes, len, (off_t)at);
-        if (written < 0 && errno == EINTR) continue;
-        if (written == 0) errno = EIO;
-        if (written <= 0) return false;
-        bytes += written;
-        len -= (size_t)written;
-        at += (uint64_t)written;
-    }
-    return true;
-}
-
-/* Reads so many bytes, or as many as there are up to the file's end or to bytes that can't be read, and writes how many. */
-static bool read_up_to(int descriptor, uint8_t *bytes, size_t len, uint64_t at, size_t *got) {
-    *got = 0;
-    while (*got < len) {
-        ssize_t read = pread(descriptor, bytes + *got, len - *got, (off_t)(at + *got));
-        if (read < 0 && errno == EINTR) continue;
-        if (read < 0 && *got == 0) return false;
-        if (read <= 0) break;
-        *got += (size_t)read;
-    }
-    return true;
-}
-
-/* Whether the system refused something for want of room. */
-static bool is_of_room(int error) {
-    return error == ENOSPC || error == EDQUOT;
-}
-
 static bool sync_data(int descriptor) {
     int done;
     do {
@@ -83,9 +47,9 @@ static bool do_tasks(dilluvas_file *file) {
     dilluvas_task task;
     while (dilluvas_next_task(&file->cache, &task, file->buffer, ROOM) == DILLUVAS_OK && task.kind != DILLUVAS_NOTHING) {
         if (!is_own(file)) return false;
-        bool done = task.kind == DILLUVAS_SYNC ? sync_data(file->descriptor) : write_all(file->descriptor, file->buffer, task.len, task.at);
+        bool done = task.kind == DILLUVAS_SYNC ? sync_data(file->descriptor) : dilluvas_write_all(file->descriptor, file->buffer, task.len, task.at);
         if (done) continue;
-        file->is_full = is_of_room(errno);
+        file->is_full = dilluvas_is_of_room(errno);
         return false;
     }
     return true;
@@ -99,7 +63,7 @@ static dilluvas_status read_needed(dilluvas_file *file) {
     dilluvas_status status = dilluvas_needs(&file->cache, &at, &len);
     while (status == DILLUVAS_OK && len > 0) {
         size_t piece = len < LEAST_READ ? LEAST_READ : len < ROOM ? len : ROOM;
-        if (!read_up_to(file->descriptor, file->buffer, piece, at, &got)) return DILLUVAS_READ;
+        if (!dilluvas_read_up_to(file->descriptor, file->buffer, piece, at, &got)) return DILLUVAS_READ;
         if (got < piece && got < len) return DILLUVAS_READ;
         status = dilluvas_hand_in(&file->cache, at, file->buffer, got);
         at += got;
@@ -122,7 +86,7 @@ static dilluvas_status read_part(dilluvas_file *file, uint64_t part) {
     if (end < at + len) return DILLUVAS_READ;
     uint8_t *bytes = malloc((size_t)(end - from));
     if (!bytes) return DILLUVAS_MEMORY;
-    if (!read_up_to(file->descriptor, bytes, (size_t)(end - from), from, &got) || from + got < at + len) status = DILLUVAS_READ;
+    if (!dilluvas_read_up_to(file->descriptor, bytes, (size_t)(end - from), from, &got) || from + got < at + len) status = DILLUVAS_READ;
     else status = dilluvas_hand_in(&file->cache, from, bytes, got);
     free(bytes);
     return status;
@@ -156,6 +120,18 @@ bool dilluvas_file_again(dilluvas_file *file, dilluvas_status *status) {
     return again(file, status, read_more);
 }
 
+/* A rewriting that was begun: the new file, by its name, of so many bytes while it is made, and how long the old one was at the last step. */
+struct dilluvas_file_next {
+    dilluvas_rewriting *rewriting;
+    dilluvas_file file;
+    char *name;
+    uint64_t len, stepped_at;
+};
+
+static void end_rewriting(dilluvas_file *file);
+
+static void give_up_rewriting(dilluvas_file *file, dilluvas_status failure);
+
 /* ---- Room for what is written later. */
 
 static uint64_t sum(uint64_t one, uint64_t other) {
@@ -180,8 +156,8 @@ static bool keep(dilluvas_file *file, uint64_t to) {
             done = fallocate(file->descriptor, FALLOC_FL_KEEP_SIZE, (off_t)from, (off_t)(end - from));
         } while (done != 0 && errno == EINTR);
         /* a part of what was wanted may be kept then */
-        if (done == 0 || is_of_room(errno)) file->keeps_room = true;
-        if (done != 0 && is_of_room(errno)) return false;
+        if (done == 0 || dilluvas_is_of_room(errno)) file->keeps_room = true;
+        if (done != 0 && dilluvas_is_of_room(errno)) return false;
     }
 #endif
     file->room_end = to;
@@ -218,7 +194,14 @@ dilluvas_status dilluvas_file_keep_room(dilluvas_file *file, size_t bytes) {
     /* where a segment is longer than any file there is no room to be kept */
     if (to > file->room_end && to <= INT64_MAX / 2) {
         uint64_t step = to / 8 < LEAST_STEP ? LEAST_STEP : to / 8 < MOST_STEP ? to / 8 : MOST_STEP;
-        if (!keep(file, to + step) && !keep(file, to)) return DILLUVAS_DISK_FULL;
+        bool is_kept = keep(file, to + step) || keep(file, to);
+        if (!is_kept && file->next) {
+            /* what it wrote takes room too */
+            give_up_rewriting(file, DILLUVAS_DISK_FULL);
+            file->next_look = size + size / 2;
+            is_kept = keep(file, to);
+        }
+        if (!is_kept) return DILLUVAS_DISK_FULL;
     }
     file->longest = (size_t)longest;
     return DILLUVAS_OK;
@@ -228,7 +211,7 @@ dilluvas_status dilluvas_file_keep_room(dilluvas_file *file, size_t bytes) {
 
 /* That no file can be opened, made or named. */
 static dilluvas_status refusal(void) {
-    return is_of_room(errno) ? DILLUVAS_DISK_FULL : DILLUVAS_NO_ACCESS;
+    return dilluvas_is_of_room(errno) ? DILLUVAS_DISK_FULL : DILLUVAS_NO_ACCESS;
 }
 
 static bool are_one_file(const struct stat *one, const struct stat *other) {
@@ -319,9 +302,17 @@ static dilluvas_status open_cache(dilluvas_file *file, const dilluvas_file_setti
     return status;
 }
 
+/* Takes the name away that a file has while it is made, where it leads to the file. It is locked yet, so the name is this file's. */
+static void take_name_away(int descriptor, const char *other) {
+    struct stat new, found;
+    if (descriptor < 0 || !other || fstat(descriptor, &new) != 0) return;
+    if (lstat(other, &found) == 0 && are_one_file(&new, &found)) unlink(other);
+}
+
 /* Closes what is open of a file that isn't to be used. The lock is one for all processes that have the file open since it was opened once, and
  * belongs to the one that opened it. */
 static void close_all(dilluvas_file *file) {
+    end_rewriting(file);
     dilluvas_close(&file->cache);
     free(file->buffer);
     free(file->path);
@@ -334,6 +325,24 @@ static void close_all(dilluvas_file *file) {
     file->path = NULL;
     file->descriptor = -1;
     file->keeps_room = false;
+}
+
+/* Ends the rewriting that was begun, if one was, and takes its file away, which is that of the process that began it. */
+static void end_rewriting(dilluvas_file *file) {
+    struct dilluvas_file_next *next = file->next;
+    if (!next) return;
+    file->next = NULL;
+    dilluvas_rewriting_end(next->rewriting);
+    if (is_own(file)) take_name_away(next->file.descriptor, next->name);
+    close_all(&next->file);
+    free(next->name);
+    free(next);
+}
+
+/* The same where it failed, or is done: OK then. */
+static void give_up_rewriting(dilluvas_file *file, dilluvas_status failure) {
+    end_rewriting(file);
+    file->failure = failure;
 }
 
 /* Gives a file the owner and the mode of the one whose place it takes. */
@@ -448,7 +457,7 @@ static dilluvas_status check_empty(int descriptor) {
     uint8_t byte;
     size_t got;
     if (!sync_data(descriptor)) return errno == EINVAL ? DILLUVAS_NO_FILE : DILLUVAS_WRITE;
-    if (!read_up_to(descriptor, &byte, 1, 0, &got)) return DILLUVAS_READ;
+    if (!dilluvas_read_up_to(descriptor, &byte, 1, 0, &got)) return DILLUVAS_READ;
     return got == 0 ? DILLUVAS_OK : DILLUVAS_NO_FILE;
 }
 
@@ -474,6 +483,19 @@ static dilluvas_status open_or_make(dilluvas_file *file, const char *path, const
     return sync_name(path) ? open_cache(file, settings, (uint64_t)found.st_size) : DILLUVAS_WRITE;
 }
 
+/* Takes away what a process left that was killed while it rewrote the file: nobody else would before the next rewriting. */
+static void take_left_away(const dilluvas_file *file) {
+    struct stat own, found;
+    int descriptor = -1;
+    char *other = name_while_made(file->path);
+    bool is_left = other && lstat(other, &found) == 0 && S_ISREG(found.st_mode) && fstat(file->descriptor, &own) == 0;
+    if (is_left && make_other(other, &own, &descriptor) == DILLUVAS_OK) {
+        unlink(other);
+        let_go(descriptor);
+    }
+    free(other);
+}
+
 dilluvas_status dilluvas_file_open(dilluvas_file *file, const char *path, const dilluvas_file_settings *settings) {
     if (!file || !path) return DILLUVAS_ARGUMENTS;
     if (file->buffer) return DILLUVAS_ALREADY_OPEN;
@@ -482,6 +504,8 @@ dilluvas_status dilluvas_file_open(dilluvas_file *file, const char *path, const 
     file->next_look = 0;
     file->longest = 0;
     file->is_full = false;
+    file->next = NULL;
+    file->failure = DILLUVAS_OK;
     dilluvas_status status = DILLUVAS_STALE;
     for (int tried = 0; status == DILLUVAS_STALE && tried < MOST_TRIES; tried++) {
         status = open_or_make(file, path, settings);
@@ -489,9 +513,11 @@ dilluvas_status dilluvas_file_open(dilluvas_file *file, const char *path, const 
     }
     if (status == DILLUVAS_STALE) return DILLUVAS_NO_ACCESS;
     if (status == DILLUVAS_WRITE && file->is_full) return DILLUVAS_DISK_FULL;
+    if (status != DILLUVAS_OK) return status;
     /* it may have been taken away since */
-    if (status == DILLUVAS_OK && !realpath(path, file->path)) file->path[0] = 0;
-    return status;
+    if (!realpath(path, file->path)) file->path[0] = 0;
+    else take_left_away(file);
+    return DILLUVAS_OK;
 }
 
 /* ---- Rewriting. */
@@ -515,18 +541,24 @@ static dilluvas_status rewrite(dilluvas_file *file, dilluvas_file *next) {
     return status;
 }
 
+/* Gives a new file, which is whole and durable, the path of the old one. */
+static dilluvas_status take_path(dilluvas_file *file, const dilluvas_file *next, const char *other) {
+    struct stat old, new, found;
+    if (fstat(file->descriptor, &old) != 0 || fstat(next->descriptor, &new) != 0) return DILLUVAS_READ;
+    if (lstat(other, &found) != 0 || !are_one_file(&new, &found)) return DILLUVAS_NO_ACCESS;
+    if (stat(file->path, &found) != 0 || !are_one_file(&old, &found)) return DILLUVAS_NO_ACCESS;
+    return rename(other, file->path) == 0 ? DILLUVAS_OK : refusal();
+}
+
 /* Makes the new file by its other name, and gives it the path of the old one. */
 static dilluvas_status make_compact(dilluvas_file *file, dilluvas_file *next, const char *other) {
-    struct stat old, found;
+    struct stat old;
     if (fstat(file->descriptor, &old) != 0) return DILLUVAS_READ;
     dilluvas_status status = make_other(other, &old, &next->descriptor);
     if (status != DILLUVAS_OK) return status;
     status = give_owner_and_mode(next->descriptor, &old) ? rewrite(file, next) : DILLUVAS_WRITE;
     if (status == DILLUVAS_OK) DILLUVAS_FILE_CALL(next, status, dilluvas_open_file(&next->cache, &file->settings, 0));
-    bool is_there = stat(file->path, &found) == 0 && are_one_file(&old, &found);
-    if (status == DILLUVAS_OK && !is_there) status = DILLUVAS_NO_ACCESS;
-    if (status == DILLUVAS_OK && rename(other, file->path) != 0) status = refusal();
-    if (status != DILLUVAS_OK) unlink(other);
+    if (status == DILLUVAS_OK) status = take_path(file, next, other);
     return status == DILLUVAS_WRITE && next->is_full ? DILLUVAS_DISK_FULL : status;
 }
 
@@ -544,28 +576,36 @@ static void swap(dilluvas_file *one, dilluvas_file *other) {
     other->keeps_room = keeps_room;
 }
 
-/* Rewrites a file that is this process's. */
-static dilluvas_status compact(dilluvas_file *file) {
-    dilluvas_file next = DILLUVAS_FILE_CLOSED;
-    dilluvas_status status;
+/* Makes the next cache and goes on over that, with its file. `next` has the old cache then, whose file is to be closed now that the path leads
+ * to the new one, or the new one that isn't used. */
+static dilluvas_status go_over(dilluvas_file *file, dilluvas_file *next, const char *other,
+                               dilluvas_status (*make_next)(dilluvas_file *, dilluvas_file *, const char *)) {
     int folder = *file->path ? open_folder(file->path) : -1;
-    if (folder < 0) return DILLUVAS_NO_ACCESS;
-    char *other = name_while_made(file->path);
-    next.buffer = calloc(1, ROOM);
-    next.process = file->process;
-    status = other && next.buffer ? make_compact(file, &next, other) : DILLUVAS_MEMORY;
+    dilluvas_status status = folder >= 0 ? DILLUVAS_OK : DILLUVAS_NO_ACCESS;
+    if (status == DILLUVAS_OK) status = make_next(file, next, other);
+    if (status != DILLUVAS_OK) take_name_away(next->descriptor, other);
     if (status == DILLUVAS_OK) {
-        swap(file, &next);
+        swap(file, next);
+        file->failure = DILLUVAS_OK;
         if (!sync_folder(folder)) {
             /* which of the two files a crash leaves isn't known, so nothing is written to this one */
             dilluvas_failed(&file->cache);
             status = DILLUVAS_WRITE;
         }
     }
-    /* the old file is unlocked once the path leads to the new one */
+    if (folder >= 0) close(folder);
+    return status;
+}
+
+/* Rewrites a file that is this process's. */
+static dilluvas_status compact(dilluvas_file *file) {
+    dilluvas_file next = DILLUVAS_FILE_CLOSED;
+    char *other = name_while_made(file->path);
+    next.process = file->process;
+    next.buffer = calloc(1, ROOM);
+    dilluvas_status status = other && next.buffer ? go_over(file, &next, other, make_compact) : DILLUVAS_MEMORY;
     close_all(&next);
     free(other);
-    close(folder);
     return status;
 }
 
@@ -581,6 +621,7 @@ dilluvas_status dilluvas_file_compact(dilluvas_file *file) {
     }
     DILLUVAS_FILE_CALL(file, status, dilluvas_size(&file->cache, &bytes));
     if (status != DILLUVAS_OK) return status;
+    end_rewriting(file);
     status = compact(file);
     if (status != DILLUVAS_DISK_FULL || !file->keeps_room) return status;
     /* the room that is kept for what is pending may be of use to the new file once nothing is */
@@ -589,16 +630,150 @@ dilluvas_status dilluvas_file_compact(dilluvas_file *file) {
     return give_back_room(file) ? compact(file) : status;
 }
 
-/* Whether it is time to rewrite a file, of which nothing is pending. */
-static bool is_time(dilluvas_file *file, const dilluvas_compact_at *when, uint64_t size) {
+/* ---- Rewriting step by step. */
+
+/* That the new file can't be written or synced. Nothing rests on it. */
+static dilluvas_status write_failure(void) {
+    return dilluvas_is_of_room(errno) ? DILLUVAS_DISK_FULL : DILLUVAS_WRITE;
+}
+
+/* Makes the new file of a rewriting, of a length that it rarely reaches: it has what the pages take at first, and what is changed until it is
+ * level. One that gets longer is given up, and the rewriting is tried again once the file has grown by half. */
+static dilluvas_status make_next(const dilluvas_file *file, struct dilluvas_file_next *next, const struct stat *old) {
+    struct rlimit limit;
+    next->len = sum(sum((uint64_t)old->st_size, (uint64_t)old->st_size), MOST_STEP);
+    /* beyond it a signal is raised, which ends the process */
+    bool is_limited = getrlimit(RLIMIT_FSIZE, &limit) == 0 && limit.rlim_cur != RLIM_INFINITY && limit.rlim_cur < next->len;
+    if (is_limited) return DILLUVAS_WRITE;
+    if (next->len > INT64_MAX) return DILLUVAS_LOG_FULL;
+    next->file.process = file->process;
+    next->file.settings = file->settings;
+    next->file.buffer = calloc(1, ROOM);
+    next->name = name_while_made(file->path);
+    next->rewriting = dilluvas_rewriting_begin();
+    if (!next->file.buffer || !next->name || !next->rewriting) return DILLUVAS_MEMORY;
+    dilluvas_status status = make_other(next->name, old, &next->file.descriptor);
+    if (status != DILLUVAS_OK) return status;
+    bool is_made = give_owner_and_mode(next->file.descriptor, old) && ftruncate(next->file.descriptor, (off_t)next->len) == 0;
+    return is_made ? DILLUVAS_OK : write_failure();
+}
+
+/* Begins to rewrite a file that has so many bytes, of which its pages take `live`. */
+static dilluvas_status begin_rewriting(dilluvas_file *file, uint64_t size, uint64_t live) {
+    static const dilluvas_file closed = DILLUVAS_FILE_CLOSED;
+    struct stat old;
+    if (!*file->path) return DILLUVAS_NO_ACCESS;
+    if (fstat(file->descriptor, &old) != 0) return DILLUVAS_READ;
+    if (!dilluvas_rewriting_has_room(file->descriptor, live)) return DILLUVAS_DISK_FULL;
+    file->next = calloc(1, sizeof *file->next);
+    if (!file->next) return DILLUVAS_MEMORY;
+    file->next->file = closed;
+    file->next->stepped_at = size;
+    return make_next(file, file->next, &old);
+}
+
+/* Hands in the own pages of the cache over the new file, which is level, before they are needed. Else they are asked for. */
+static void hand_in_own_pages(struct dilluvas_file_next *next) {
+    uint64_t at = dilluvas_rewriting_own_pages(next->rewriting), len = dilluvas_rewriting_stays(next->rewriting) - at;
+    size_t got;
+    if (len > ROOM || !dilluvas_read_up_to(next->file.descriptor, next->file.buffer, (size_t)len, at, &got)) return;
+    dilluvas_hand_in(&next->file.cache, at, next->file.buffer, got);
+}
+
+/* Lets the cache over the new file read what was copied: NEEDS where it is to read more, which isn't there yet. */
+static dilluvas_status read_copied(struct dilluvas_file_next *next, bool is_level) {
     dilluvas_status status;
-    uint64_t live;
+    do {
+        uint64_t at = 0;
+        size_t len = 0;
+        if (is_level) hand_in_own_pages(next);
+        status = dilluvas_open_file(&next->file.cache, &next->file.settings, next->len);
+        if (status != DILLUVAS_NEEDS || is_level) continue;
+        if (dilluvas_needs(&next->file.cache, &at, &len) != DILLUVAS_OK) return DILLUVAS_READ;
+        if (at + (len < LEAST_READ ? LEAST_READ : len) > dilluvas_rewriting_stays(next->rewriting)) return status;
+    } while (again(&next->file, &status, read_needed));
+    return status == DILLUVAS_WRITE && next->file.is_full ? DILLUVAS_DISK_FULL : status;
+}
+
+/* Gives the new file, over which the cache is open, the path. What the library finds in both has to have as many bytes: what makes the pages
+ * is copied byte for byte. */
+static dilluvas_status put_next(dilluvas_file *file, dilluvas_file *next, const char *other) {
+    struct stat old;
+    uint64_t live = 0, copied = 0;
+    dilluvas_status status;
+    DILLUVAS_FILE_CALL(next, status, dilluvas_live(&next->cache, &copied));
+    if (status == DILLUVAS_OK) DILLUVAS_FILE_CALL(file, status, dilluvas_live(&file->cache, &live));
+    if (status != DILLUVAS_OK) return status;
+    if (live != copied) return DILLUVAS_CORRUPTION;
+    if (fstat(file->descriptor, &old) != 0) return DILLUVAS_READ;
+    /* they may have been changed since the rewriting was begun */
+    if (!give_owner_and_mode(next->descriptor, &old)) return write_failure();
+    return sync_data(next->descriptor) ? take_path(file, next, other) : write_failure();
+}
+
+/* Takes a step of the rewriting that was begun of a file, of which nothing is pending. STALE: there is more to do. */
+static dilluvas_status take_step(dilluvas_file *file, uint64_t step, uint64_t size) {
+    struct dilluvas_file_next *next = file->next;
+    bool is_level;
+    /* it has to be faster than what is written */
+    uint64_t grown = size > next->stepped_at ? size - next->stepped_at : 0, work = sum(step, sum(grown, 3 * grown));
+    next->stepped_at = size;
+    dilluvas_status status = dilluvas_rewriting_step(next->rewriting, file->descriptor, next->file.descriptor, work, &is_level);
+    if (status == DILLUVAS_OK && dilluvas_rewriting_stays(next->rewriting) >= next->len) status = DILLUVAS_LOG_FULL;
+    if (status == DILLUVAS_OK) status = read_copied(next, is_level);
+    if (status == DILLUVAS_NEEDS) return DILLUVAS_STALE;
+    if (status != DILLUVAS_OK) return status;
+    if (!is_level) return DILLUVAS_CORRUPTION;
+    if (ftruncate(next->file.descriptor, (off_t)dilluvas_rewriting_stays(next->rewriting) + 1) != 0) return write_failure();
+    return go_over(file, &next->file, next->name, put_next);
+}
+
+/* The same, and ends the rewriting where it is done or has failed. */
+static void go_on_rewriting(dilluvas_file *file, uint64_t step, uint64_t size) {
+    dilluvas_status looked, status = take_step(file, step, size);
+    if (status == DILLUVAS_STALE) return;
+    give_up_rewriting(file, status);
+    if (status == DILLUVAS_OK) DILLUVAS_FILE_CALL(file, looked, dilluvas_size(&file->cache, &size));
+    file->next_look = size + size / 2;
+}
+
+/* ---- Flushing. */
+
+/* Whether it is time to rewrite a file, of which nothing is pending. Writes how many bytes its pages take. */
+static bool is_time(dilluvas_file *file, const dilluvas_compact_at *when, uint64_t size, uint64_t *live) {
+    dilluvas_status status;
     if (size < file->next_look || size < when->least || size > when->most) return false;
-    DILLUVAS_FILE_CALL(file, status, dilluvas_live(&file->cache, &live));
+    DILLUVAS_FILE_CALL(file, status, dilluvas_live(&file->cache, live));
     if (status != DILLUVAS_OK) return false;
-    if (size / (when->times < 2 ? 2 : when->times) >= live) return true;
+    if (size / (when->times < 2 ? 2 : when->times) >= *live) return true;
     file->next_look = size + size / 8;
     return false;
+}
+
+/* Rewrites a file that has so many bytes. */
+static void rewrite_at_once(dilluvas_file *file, uint64_t size) {
+    dilluvas_status looked;
+    file->failure = dilluvas_file_compact(file);
+    if (file->failure == DILLUVAS_OK) DILLUVAS_FILE_CALL(file, looked, dilluvas_size(&file->cache, &size));
+    file->next_look = size + size / 2;
+}
+
+/* Rewrites a file, of which nothing is pending, or takes a step of that, where it is time to. */
+static void give_back_space(dilluvas_file *file, const dilluvas_compact_at *when, uint64_t size) {
+    uint64_t live = 0;
+    if (when->step == 0) end_rewriting(file);
+    if (!file->next) {
+        if (!is_time(file, when, size, &live)) return;
+        /* for one that fails */
+        file->next_look = size + size / 2;
+        if (when->step == 0) {
+            rewrite_at_once(file, size);
+            return;
+        }
+        dilluvas_status begun = begin_rewriting(file, size, live);
+        if (begun != DILLUVAS_OK) give_up_rewriting(file, begun);
+    }
+    if (file->next) go_on_rewriting(file, when->step, size);
 }
 
 dilluvas_status dilluvas_file_flush(dilluvas_file *file, const dilluvas_compact_at *when) {
@@ -609,13 +784,15 @@ dilluvas_status dilluvas_file_flush(dilluvas_file *file, const dilluvas_compact_
     if (!file) return DILLUVAS_ARGUMENTS;
     if (!file->buffer) return DILLUVAS_NOT_OPEN;
     DILLUVAS_FILE_CALL(file, status, dilluvas_flush(&file->cache, &written));
-    if (status != DILLUVAS_OK) return status;
+    if (status != DILLUVAS_OK || !is_own(file)) return status;
     DILLUVAS_FILE_CALL(file, looked, dilluvas_size(&file->cache, &size));
-    if (looked != DILLUVAS_OK || !is_time(file, when ? when : &usual, size)) return status;
-    /* the next call tells what came of it */
-    if (dilluvas_file_compact(file) == DILLUVAS_OK) DILLUVAS_FILE_CALL(file, looked, dilluvas_size(&file->cache, &size));
-    file->next_look = size + size / 2;
+    if (looked == DILLUVAS_OK) give_back_space(file, when ? when : &usual, size);
     return status;
+}
+
+dilluvas_status dilluvas_file_rewriting_failure(const dilluvas_file *file) {
+    if (!file) return DILLUVAS_ARGUMENTS;
+    return file->buffer ? file->failure : DILLUVAS_NOT_OPEN;
 }
 
 dilluvas_status dilluvas_file_close(dilluvas_file *file) {

@@ -38,10 +38,12 @@ typedef struct dilluvas_file {
     size_t longest;
     bool keeps_room;
     bool is_full;
+    struct dilluvas_file_next *next;
+    dilluvas_status failure;
 } dilluvas_file;
 
 /* One before its first call, and behind dilluvas_file_close. */
-#define DILLUVAS_FILE_CLOSED {DILLUVAS_CLOSED, -1, NULL, NULL, {0, 0, 0}, 0, 0, 0, 0, 0, false, false}
+#define DILLUVAS_FILE_CLOSED {DILLUVAS_CLOSED, -1, NULL, NULL, {0, 0, 0}, 0, 0, 0, 0, 0, false, false, NULL, DILLUVAS_OK}
 
 /* Opens a cache over the file of a path, which is locked as by flock until it is closed. Null settings are DILLUVAS_FILE_SETTINGS. A file
  * that is absent or empty is made: with ".dilluvas-new" behind its name until it is whole and durable, so a crash leaves it whole or as it
@@ -105,26 +107,49 @@ dilluvas_status dilluvas_file_keep_room(dilluvas_file *file, size_t bytes);
  * synced every later call answers WRITE: the new file is there, but a crash may bring back the old one. */
 dilluvas_status dilluvas_file_compact(dilluvas_file *file);
 
-/* When dilluvas_file_flush rewrites a file: where it has `times` as many bytes as its pages take, and `least` bytes or more, and no more than
- * `most`. */
+/* When dilluvas_file_flush rewrites a file: once it has `times` as many bytes as its pages take, at least `least` bytes and at most `most`. */
 typedef struct dilluvas_compact_at {
-    uint64_t times; /* at least 2, which is taken for what is less */
+    uint64_t times; /* at least 2; a smaller number counts as 2 */
     uint64_t least;
-    uint64_t most; /* a rewriting may take three times as much memory */
+    uint64_t most;
+    uint64_t step; /* about how many bytes one flush reads and writes for it, or 0: one flush does all of it, as dilluvas_file_compact does */
 } dilluvas_compact_at;
 
-#define DILLUVAS_COMPACT_AT {4, 16777216, 1073741824}
+#define DILLUVAS_COMPACT_AT {4, 16777216, UINT64_MAX, 4194304}
 
-/* Makes all that is pending durable, as dilluvas_flush does, and then rewrites the file as dilluvas_file_compact does, where it is time to:
- * else a file only grows. Null stands for DILLUVAS_COMPACT_AT. How much the pages take is looked at each time that the file has grown by an
- * eighth.
+/* Makes all that is pending durable, as dilluvas_flush does. Then it rewrites the file where it is time to, since a file only grows otherwise:
+ * step by step, a part at each flush. NULL stands for DILLUVAS_COMPACT_AT. How much the pages take is looked at each time that the file has
+ * grown by an eighth.
+ * Where RLIMIT_FSIZE is less than twice the file and 4 MiB, none is begun.
  *
- * Each page has stamp 0 behind a rewriting, so this call is for programs that keep maps, and for those that let their stamps go at each
- * flush.
+ * A step takes some milliseconds, and four bytes of work for each byte that the file grew by since the last one. It copies records to a new
+ * file, FILE.dilluvas-new, which takes the place of the file as that of dilluvas_file_compact does once it has all of them. Neither file is
+ * in memory: 16 bytes are for each page, and for each link of one. The last step opens the new file, and syncs it. A rewriting that was begun
+ * ends with dilluvas_file_close, which takes the new file away, with dilluvas_file_compact, and on a full disk.
  *
- * Answers as dilluvas_flush does, whatever comes of the rewriting: one that is refused leaves the file and the cache as they were, or the
- * next call answers WRITE, and it is tried again once the file has grown by half. */
+ * The steps aren't proved, as dilluvas_file_compact is: they copy the records of which the library makes the pages. Before the new file takes
+ * its place, it was opened, and the library found as many bytes of pages there as in the old one.
+ *
+ * Each page has stamp 0 after a rewriting, so this call is for programs that keep maps, and for those that let their stamps go at each flush.
+ *
+ * Returns what dilluvas_flush returns, whatever comes of the rewriting: one that fails leaves the file and the cache as they were, or the next
+ * call returns WRITE, and it is tried again once the file has grown by half. dilluvas_file_rewriting_failure tells why. */
 dilluvas_status dilluvas_file_flush(dilluvas_file *file, const dilluvas_compact_at *when);
+
+/* Why the last rewriting by dilluvas_file_flush failed: OK where none did since the file was opened, or since a rewriting replaced it, one in
+ * steps or dilluvas_file_compact. The flush itself succeeded: all that was changed is durable, and the file and the cache are as they were. But
+ * the file goes on growing as long as no rewriting succeeds, so a program may look at this after a flush, and tell its user the text of the
+ * status (dilluvas_text). The rewriting is tried again once the file has grown by half.
+ *
+ * NO_ACCESS, NO_FILE or HELD where the folder takes no new file, or the path doesn't lead to the file by now; DISK_FULL, also where the disk has
+ * too little room to begin, or a change took the room of the new file; READ, WRITE, MEMORY; LOG_FULL where the new file got too long, since so
+ * much was changed meanwhile; CORRUPTION where the pages of the new file aren't those of the old one, or the old one is damaged. At WRITE the
+ * next call may return WRITE too: then the folder couldn't be synced.
+ *
+ * A dilluvas_file_compact that fails returns its status itself, and leaves this one. So does a child that was forked, which takes no step.
+ *
+ * Answers ARGUMENTS and NOT_OPEN too. */
+dilluvas_status dilluvas_file_rewriting_failure(const dilluvas_file *file);
 
 /* Closes the cache and the file. Nothing is flushed.
  *

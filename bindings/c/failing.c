@@ -12,7 +12,8 @@ void is(int line, unsigned long long got, unsigned long long wanted) {
     failures++;
 }
 
-long made[KINDS], fails_at[KINDS] = {-1, -1, -1};
+long made[KINDS], fails_at[KINDS] = {-1, -1, -1, -1};
+int fails_with = EIO;
 bool lasting;
 int no_links;
 void (*watch)(void);
@@ -20,7 +21,7 @@ void (*watch)(void);
 static bool fails(enum kind kind) {
     long n = made[kind]++;
     if (fails_at[kind] < 0 || n < fails_at[kind] || (n > fails_at[kind] && !lasting)) return false;
-    errno = EIO;
+    errno = fails_with;
     return true;
 }
 
@@ -31,7 +32,7 @@ void all_goes_well(void) {
     }
 }
 
-/* Every third read or write is interrupted, and of the others every second one does a part. */
+/* Every third read or write is interrupted, and of the others every second one does a part, a small one or half of it. */
 static unsigned turn;
 
 static bool is_interrupted(void) {
@@ -41,7 +42,8 @@ static bool is_interrupted(void) {
 }
 
 static size_t cut(size_t len) {
-    return turn % 2 && len > 1 ? len / 2 : len;
+    size_t part = turn % 4 == 1 && len > 32 ? 16 : len / 2;
+    return turn % 2 && len > 1 ? part : len;
 }
 
 static void look(void) {
@@ -87,6 +89,7 @@ int __wrap_fsync(int descriptor) {
 }
 
 int __wrap_rename(const char *old, const char *new) {
+    if (fails(RENAMES)) return -1;
     look();
     int done = __real_rename(old, new);
     look();

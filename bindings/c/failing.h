@@ -14,11 +14,14 @@ void is(int line, unsigned long long got, unsigned long long wanted);
 #define IS(got, wanted) is(__LINE__, (got), (wanted))
 #define TEXT(text) (const uint8_t *)(text), sizeof(text) - 1
 
-enum kind { READS, WRITES, SYNCS, KINDS };
+enum kind { READS, WRITES, SYNCS, RENAMES, KINDS };
 
 /* How many calls of each kind were made, and before which one of a kind they begin to fail: that one alone, or all. */
 extern long made[KINDS], fails_at[KINDS];
 extern bool lasting;
+
+/* Why a call fails: EIO, unless it is set. */
+extern int fails_with;
 
 /* Why no file gets a second name, unless that is 0. */
 extern int no_links;

@@ -9,6 +9,7 @@
 #include <sys/mount.h>
 #include <sys/resource.h>
 #include <sys/stat.h>
+#include <sys/statvfs.h>
 #include <sys/wait.h>
 #include <unistd.h>
 
@@ -288,9 +289,96 @@ static void arguments_are_tested(void) {
     IS(memcmp(text, "the disk has no room", 20), 0);
 }
 
+/* ---- A file that is rewritten step by step. */
+
+enum { MANY = 1500 };
+
+static void set_all(dilluvas_file *file, unsigned number, const dilluvas_compact_at *when) {
+    for (unsigned key = 0; key < MANY; key++) IS(set(file, key, number), DILLUVAS_OK);
+    IS(dilluvas_file_flush(file, when), DILLUVAS_OK);
+}
+
+static uint64_t free_bytes(void) {
+    struct statvfs found;
+    IS(statvfs(disk, &found), 0);
+    return (uint64_t)found.f_bavail * found.f_frsize;
+}
+
+/* A rewriting that has copied some of the pages as the disk gets full. */
+static void begin_rewriting(dilluvas_file *file) {
+    const dilluvas_compact_at when = {2, 0, UINT64_MAX, 100000};
+    struct stat found;
+    set_size(20480);
+    for (unsigned number = 0; !file->next && number < 30; number++) set_all(file, 1, &when);
+    do {
+        IS(dilluvas_file_flush(file, &when), DILLUVAS_OK);
+    } while (file->next && stat(other, &found) == 0 && found.st_blocks * 512 < 300000);
+    IS(file->next != NULL, true);
+    fill_by_another();
+}
+
+/* It has room again, and is rewritten then. */
+static void goes_on_with_room(dilluvas_file *file) {
+    const dilluvas_compact_at when = {2, 0, UINT64_MAX, UINT64_MAX};
+    check(file, MANY, 1);
+    IS(dilluvas_file_flush(file, &when), DILLUVAS_OK);
+    unlink("other");
+    off_t before = size_of(path);
+    unsigned number = 2;
+    for (; number < 20 && size_of(path) >= before; number++) set_all(file, number, &when);
+    IS(size_of(path) < before, true);
+    IS(dilluvas_file_rewriting_failure(file), DILLUVAS_OK);
+    check(file, MANY, number - 1);
+    IS(dilluvas_file_close(file), DILLUVAS_OK);
+    *file = opened();
+    check(file, MANY, number - 1);
+    end(file);
+}
+
+/* Changes use the room of the new file, and are refused once there is none. */
+static void changes_end_a_rewriting(void) {
+    dilluvas_file used = opened(), *file = &used;
+    begin_rewriting(file);
+    unsigned changed = 0;
+    while (changed < 10000 && set(file, changed % MANY, 1) == DILLUVAS_OK) changed++;
+    IS(status, DILLUVAS_DISK_FULL);
+    IS(changed > 200, true);
+    IS(file->next == NULL && size_of(other) == -1, true);
+    IS(dilluvas_file_rewriting_failure(file), DILLUVAS_DISK_FULL);
+    IS(free_bytes() < 150000, true);
+    goes_on_with_room(file);
+}
+
+/* A step that has no room ends the rewriting, and the flush succeeds. */
+static void steps_end_without_room(void) {
+    const dilluvas_compact_at when = {2, 0, UINT64_MAX, 100000};
+    dilluvas_file used = opened(), *file = &used;
+    begin_rewriting(file);
+    for (unsigned i = 0; file->next && i < 100; i++) IS(dilluvas_file_flush(file, &when), DILLUVAS_OK);
+    IS(file->next == NULL && size_of(other) == -1, true);
+    IS(dilluvas_file_rewriting_failure(file), DILLUVAS_DISK_FULL);
+    IS(set(file, 0, 1), DILLUVAS_OK);
+    goes_on_with_room(file);
+}
+
+/* None is begun on a disk that may get full by it. */
+static void none_is_begun_without_room(void) {
+    const dilluvas_compact_at when = {2, 0, UINT64_MAX, 100000};
+    dilluvas_file used = opened(), *file = &used;
+    set_size(9216);
+    for (unsigned number = 0; number < 3; number++) {
+        set_all(file, number, &when);
+        IS(file->next == NULL && size_of(other) == -1, true);
+        IS(dilluvas_file_rewriting_failure(file), DILLUVAS_DISK_FULL);
+    }
+    check(file, MANY, 2);
+    end(file);
+}
+
 static void (*const tests[])(void) = {
     reads_and_flushes_go_on, a_rewriting_gives_room, a_rewriting_without_room_is_refused, what_others_take_and_give_back_counts,
     none_is_made_without_room, the_room_behind_the_end_goes_back, children_keep_no_room,
+    changes_end_a_rewriting, steps_end_without_room, none_is_begun_without_room,
 };
 
 int main(int count, char **arguments) {

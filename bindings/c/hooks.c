@@ -1,5 +1,6 @@
 /* dilluvas_file.c, whose reads, writes and syncs go by a hook: bindings/python/c_loop.py sets it, and lets them fail. With it allocations
- * are refused. Linked into a shared library with --wrap=malloc, --wrap=calloc and --wrap=realloc. */
+ * are refused. Linked into a shared library with --wrap=malloc, --wrap=calloc, --wrap=realloc, --wrap=pread and
+ * --wrap=pwrite. */
 #define _GNU_SOURCE
 #include <errno.h>
 #include <fcntl.h>
@@ -69,11 +70,11 @@ void *__wrap_realloc(void *block, size_t size) {
 
 /* ---- The loop. */
 
-static ssize_t hooked_pread(int descriptor, void *bytes, size_t len, off_t at) {
+ssize_t __wrap_pread(int descriptor, void *bytes, size_t len, off_t at) {
     return (ssize_t)call(READ, descriptor, bytes, len, at);
 }
 
-static ssize_t hooked_pwrite(int descriptor, const void *bytes, size_t len, off_t at) {
+ssize_t __wrap_pwrite(int descriptor, const void *bytes, size_t len, off_t at) {
     return (ssize_t)call(WRITE, descriptor, bytes, len, at);
 }
 
@@ -104,8 +105,6 @@ static int hooked_fallocate(int descriptor, int mode, off_t at, off_t len) {
     return -1;
 }
 
-#define pread hooked_pread
-#define pwrite hooked_pwrite
 #define fdatasync hooked_fdatasync
 #define fsync hooked_fsync
 #define rename hooked_rename

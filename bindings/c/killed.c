@@ -1,6 +1,6 @@
 /* Kills a process that writes a file and rewrites it, at a random moment, and opens the file again: what was said to be flushed is there, of a
- * batch all or nothing, and no id comes twice. A batch is written as ten frames and more. Of three processes one ends itself before a random
- * call of the system in a rewriting, and one before a random call in a batch. Linked with --wrap=pwrite, --wrap=fdatasync, --wrap=fsync and
+ * batch all or nothing, and no id comes twice. A batch is written as ten frames and more. Of four processes one ends itself before a random
+ * call of the system in a rewriting, one before a random call in the steps of one, and one before a random call in a batch. Linked with --wrap=pwrite, --wrap=fdatasync, --wrap=fsync and
  * --wrap=rename. Usage: killed FOLDER TIMES, in which it makes its file. */
 #define _DEFAULT_SOURCE
 #include "dilluvas_file.h"
@@ -22,11 +22,14 @@
     } while (0)
 
 /* A round changes each page, by 29 bytes or more, which is ten segments, or one for those that end in a rewriting: that makes so few calls. */
-enum { PAGES = 60, CALLS_IN_A_BATCH = 44, CALLS_IN_A_REWRITING = 16 };
+enum { PAGES = 60, CALLS_IN_A_BATCH = 44, CALLS_IN_A_REWRITING = 16, CALLS_IN_STEPS = 40, CALLS_IN_ONE_STEP = 18 };
 
 static const dilluvas_file_settings short_segments = {1024, 10, 160}, long_segments = {1024, 10, 2048};
 
-static char path[4096];
+/* A rewriting of some steps, or of one. */
+static dilluvas_compact_at in_steps = {2, 0, UINT64_MAX, 60000};
+
+static char path[4096], other[4120];
 
 /* What a process says once a round is flushed; or, where the round is 0, before which call it ends. */
 typedef struct told {
@@ -38,7 +41,7 @@ typedef struct told {
 enum call { WRITE, SYNC, RENAME, SYNC_FOLDER, END, CALLS };
 
 /* How a process comes to its end. */
-enum way { IS_KILLED, ENDS_IN_REWRITING, ENDS_IN_BATCH, WAYS };
+enum way { IS_KILLED, ENDS_IN_REWRITING, ENDS_IN_STEPS, ENDS_IN_BATCH, WAYS };
 
 static enum way way;
 
@@ -88,6 +91,16 @@ static dilluvas_status get_round(dilluvas_file *file, uint64_t page, uint64_t *s
     return status;
 }
 
+/* Whether the next flush takes a step of a rewriting. */
+static bool takes_step(dilluvas_file *file) {
+    dilluvas_status status;
+    uint64_t size, live;
+    DILLUVAS_FILE_CALL(file, status, dilluvas_size(&file->cache, &size));
+    DILLUVAS_FILE_CALL(file, status, dilluvas_live(&file->cache, &live));
+    size += PAGES * 40; /* what is pending */
+    return file->next || (size >= 2 * live && size >= file->next_look);
+}
+
 /* Puts the round on all pages, every second one in a batch, and flushes. */
 static void make_round(dilluvas_file *file, uint64_t round, int to) {
     dilluvas_status status;
@@ -110,7 +123,9 @@ static void make_round(dilluvas_file *file, uint64_t round, int to) {
         DILLUVAS_FILE_CALL(file, status, dilluvas_seal(&file->cache));
         CHECK(status == DILLUVAS_OK);
     }
-    DILLUVAS_FILE_CALL(file, status, dilluvas_flush(&file->cache, &written));
+    if (way == ENDS_IN_STEPS && takes_step(file)) teller = to;
+    if (way == ENDS_IN_STEPS || way == IS_KILLED) status = dilluvas_file_flush(file, &in_steps);
+    else DILLUVAS_FILE_CALL(file, status, dilluvas_flush(&file->cache, &written));
     CHECK(status == DILLUVAS_OK);
     teller = -1;
 }
@@ -120,7 +135,7 @@ static void write_rounds(int to) {
     dilluvas_file file = DILLUVAS_FILE_CLOSED;
     dilluvas_status status;
     uint64_t round = 0, found, stamp, page;
-    CHECK(dilluvas_file_open(&file, path, way == ENDS_IN_REWRITING ? &long_segments : &short_segments) == DILLUVAS_OK);
+    CHECK(dilluvas_file_open(&file, path, way == ENDS_IN_REWRITING || way == ENDS_IN_STEPS ? &long_segments : &short_segments) == DILLUVAS_OK);
     for (uint64_t wanted = 2; wanted < PAGES + 2; wanted++) {
         if (get_round(&file, wanted, &stamp, &found) == DILLUVAS_GONE) {
             DILLUVAS_FILE_CALL(&file, status, dilluvas_allocate(&file.cache, NULL, 0, &page, &stamp));
@@ -129,7 +144,7 @@ static void write_rounds(int to) {
         if (round < found) round = found;
     }
     for (int made = 0;; made++) {
-        if (made % 3 == 2) {
+        if (made % 3 == 2 && way != ENDS_IN_STEPS) {
             if (way == ENDS_IN_REWRITING) teller = to;
             CHECK(dilluvas_file_compact(&file) == DILLUVAS_OK);
             ends_at = way == ENDS_IN_REWRITING ? 0 : ends_at;
@@ -147,8 +162,14 @@ static void write_rounds(int to) {
 /* Before each call, how many processes ended in a rewriting, and in a batch. */
 static unsigned long ended[WAYS][CALLS];
 
+/* Before each call of the one step or of the several ones that a rewriting takes, in turn. */
+static void ends_in_step(int number) {
+    if (number % 2) in_steps.step = UINT64_MAX;
+    ends_at = number / 2 % (number % 2 ? CALLS_IN_ONE_STEP : CALLS_IN_STEPS);
+}
+
 /* Lets a process write for a while, and kills it, or lets it end itself, and takes what it told last. */
-static void kill_one(told *last, unsigned long *rounds) {
+static void kill_one(int number, told *last, unsigned long *rounds) {
     int ends[2], status;
     uint64_t id_before = last->id;
     told told;
@@ -159,6 +180,7 @@ static void kill_one(told *last, unsigned long *rounds) {
         close(ends[0]);
         srand((unsigned)getpid());
         ends_at = rand() % (way == ENDS_IN_BATCH ? CALLS_IN_A_BATCH : CALLS_IN_A_REWRITING);
+        if (way == ENDS_IN_STEPS) ends_in_step(number / WAYS);
         write_rounds(ends[1]);
     }
     close(ends[1]);
@@ -197,14 +219,16 @@ static uint64_t bytes_in_file(void) {
 /* The bytes of the frame that says of a batch that it was abandoned. */
 enum { ABANDONING = 34 };
 
-/* How many files ended in a batch. */
-static unsigned long abandoned;
+/* How many files ended in a batch, and beside how many a new one was left. */
+static unsigned long abandoned, left;
 
 /* Opens the file: how many of the pages are at which round. */
 static void compare(const told *last) {
     dilluvas_file file = DILLUVAS_FILE_CLOSED;
     uint64_t least = UINT64_MAX, most = 0, found, stamp, before = bytes_in_file();
+    left += access(other, F_OK) == 0;
     CHECK(dilluvas_file_open(&file, path, &short_segments) == DILLUVAS_OK);
+    CHECK(access(other, F_OK) != 0);
     CHECK(bytes_in_file() == before || bytes_in_file() == before + ABANDONING || last->round == 0);
     abandoned += bytes_in_file() == before + ABANDONING;
     for (uint64_t page = 2; page < PAGES + 2; page++) {
@@ -225,11 +249,12 @@ int main(int count, char **arguments) {
     told last = {0, 0};
     unsigned long rounds = 0;
     snprintf(path, sizeof path, "%s/killed", arguments[1]);
+    snprintf(other, sizeof other, "%s.dilluvas-new", path);
     unlink(path);
     srand(1);
     for (int i = 0; i < times; i++) {
         way = (enum way)(i % WAYS);
-        kill_one(&last, &rounds);
+        kill_one(i, &last, &rounds);
         compare(&last);
     }
     unlink(path);
@@ -237,6 +262,10 @@ int main(int count, char **arguments) {
     printf("%d kills: none of %lu flushed rounds was lost; in a rewriting %lu before a write, %lu before a sync, %lu before the new name, %lu "
            "before that was durable, and %lu behind it\n", times, rounds, in[WRITE], in[SYNC], in[RENAME], in[SYNC_FOLDER], in[END]);
     CHECK(times < 300 || (in[WRITE] && in[SYNC] && in[RENAME] && in[SYNC_FOLDER]));
+    in = ended[ENDS_IN_STEPS];
+    printf("in steps of one %lu before a write, %lu before a sync, %lu before the new name, and %lu before that was durable; %lu new files were "
+           "left\n", in[WRITE], in[SYNC], in[RENAME], in[SYNC_FOLDER], left);
+    CHECK(times < 300 || (in[WRITE] && in[SYNC] && in[RENAME] && in[SYNC_FOLDER] && left));
     in = ended[ENDS_IN_BATCH];
     printf("in a batch %lu before a write and %lu before a sync; %lu files ended in a batch\n", in[WRITE], in[SYNC], abandoned);
     CHECK(times < 300 || (in[WRITE] && in[SYNC] && abandoned > in[WRITE]));

@@ -1,9 +1,11 @@
 /* Counts the allocations of the calls that promise to take no memory. Then it makes calls with the first allocation failing, then with the
- * second, and so on: of a cache in memory, and of one over a file. Each call has to answer a status, the one that is refused has to succeed
- * when it is made again, and all has to be freed. Linked with --wrap=malloc, --wrap=calloc, --wrap=realloc and --wrap=free. Usage: no_memory
- * FOLDER, in which it makes its file. */
+ * second, and so on: of a cache in memory, of one over a file, and of one whose file is rewritten step by step. Each call has to answer a
+ * status, the one that is refused has to succeed when it is made again, and all has to be freed. Linked with --wrap=malloc, --wrap=calloc,
+ * --wrap=realloc and --wrap=free. Usage: no_memory FOLDER, in which it makes its file. */
 #define _DEFAULT_SOURCE
 #include "dilluvas_file.h"
+#include "dilluvas_rewriting.h"
+#include <fcntl.h>
 #include <stdio.h>
 #include <unistd.h>
 
@@ -109,7 +111,7 @@ static void run(void) {
         } \
     } while (0)
 
-static char path[4096];
+static char path[4096], other[4120];
 
 static void run_over_file(void) {
     dilluvas_file file = DILLUVAS_FILE_CLOSED;
@@ -140,6 +142,75 @@ static void run_over_file(void) {
     FILE_CALL(dilluvas_free(&file.cache, page, &found.stamp));
     FILE_CALL(dilluvas_flush(&file.cache, &size));
     CALL(dilluvas_file_close(&file));
+}
+
+/* Likewise over a file that is rewritten step by step: a rewriting that is refused memory is given up, which no flush returns. */
+static void run_in_steps(void) {
+    static const dilluvas_compact_at when = {2, 0, UINT64_MAX, 4000};
+    dilluvas_file file = DILLUVAS_FILE_CLOSED;
+    dilluvas_file_settings settings = {256, 10, 600};
+    dilluvas_status status;
+    uint8_t value[60] = {1};
+    size_t len;
+    bool had;
+    unlink(path);
+    CALL(dilluvas_file_open(&file, path, &settings));
+    for (uint8_t round = 0; round < 8; round++) {
+        value[0] = round;
+        for (uint8_t key = 0; key < 4; key++) {
+            FILE_CALL(dilluvas_map_set(&file.cache, (const uint8_t *)"m", 1, &key, 1, value, sizeof value, &had));
+        }
+        CALL(dilluvas_file_flush(&file, &when));
+    }
+    CALL(dilluvas_file_close(&file));
+    if (access(other, F_OK) == 0) wrong = true;
+    CALL(dilluvas_file_open(&file, path, &settings));
+    for (uint8_t key = 0; key < 4; key++) {
+        FILE_CALL(dilluvas_map_get(&file.cache, (const uint8_t *)"m", 1, &key, 1, value, sizeof value, &len));
+        if (len != sizeof value || value[0] != 7) wrong = true;
+    }
+    CALL(dilluvas_file_close(&file));
+}
+
+/* A rewriting without a cache: an error of one is its end, and the next one succeeds. */
+static void run_rewriting(void) {
+    bool is_level = false;
+    int from = open(path, O_RDWR), to = open(other, O_RDWR | O_CREAT | O_TRUNC, 0666);
+    dilluvas_status status = DILLUVAS_MEMORY;
+    for (int tried = 0; tried < 2 && status == DILLUVAS_MEMORY; tried++) {
+        if (ftruncate(to, 0) != 0) wrong = true;
+        dilluvas_rewriting *rewriting = dilluvas_rewriting_begin();
+        status = rewriting ? DILLUVAS_OK : DILLUVAS_MEMORY;
+        while (status == DILLUVAS_OK && !is_level) status = dilluvas_rewriting_step(rewriting, from, to, 1000, &is_level);
+        dilluvas_rewriting_end(rewriting);
+        again(__LINE__, status, tried == 0);
+    }
+    if (!is_level) wrong = true;
+    close(from);
+    close(to);
+    unlink(other);
+}
+
+/* A file of many pages, which are made and changed in a batch, so that each array of its rewriting grows. */
+static bool make_many(void) {
+    const dilluvas_file_settings settings = {65536, 10, 4096};
+    dilluvas_file file = DILLUVAS_FILE_CLOSED;
+    dilluvas_status status;
+    uint64_t page = 0, stamp = 0;
+    size_t size;
+    left = -1;
+    wrong = false;
+    unlink(path);
+    CALL(dilluvas_file_open(&file, path, &settings));
+    FILE_CALL(dilluvas_pin(&file.cache));
+    for (int i = 0; i < 150; i++) {
+        FILE_CALL(dilluvas_allocate(&file.cache, NULL, 0, &page, &stamp));
+        FILE_CALL(dilluvas_set(&file.cache, page, &stamp, (const uint8_t *)"k", 1, (const uint8_t *)"v", 1));
+    }
+    FILE_CALL(dilluvas_seal(&file.cache));
+    FILE_CALL(dilluvas_flush(&file.cache, &size));
+    CALL(dilluvas_file_close(&file));
+    return !wrong;
 }
 
 /* Whether a call asked for no allocation, and answered so. */
@@ -205,6 +276,31 @@ static bool none_are_asked(void) {
     return !wrong && blocks == 0 && asked > 0;
 }
 
+/* A rewriting uses the links of a page again once that has a new content: of a page that was changed so often it has a few. */
+static bool links_are_used_again(void) {
+    const dilluvas_file_settings settings = {256, 10, 4096};
+    dilluvas_file file = DILLUVAS_FILE_CLOSED;
+    dilluvas_status status;
+    uint64_t page = 0, stamp = 0;
+    uint8_t key[1] = {1};
+    size_t size;
+    left = -1;
+    wrong = false;
+    unlink(path);
+    CALL(dilluvas_file_open(&file, path, &settings));
+    FILE_CALL(dilluvas_allocate(&file.cache, NULL, 0, &page, &stamp));
+    for (int i = 0; i < 700; i++) FILE_CALL(dilluvas_set(&file.cache, page, &stamp, key, 1, key, 1));
+    FILE_CALL(dilluvas_flush(&file.cache, &size));
+    CALL(dilluvas_file_close(&file));
+    asked = 0;
+    run_rewriting();
+    if (asked > 5) {
+        printf("%ld allocations for a page of a few links\n", asked);
+        wrong = true;
+    }
+    return !wrong && blocks == 0;
+}
+
 /* Lets each allocation of a run fail in turn, and answers whether all went well. */
 static bool each_fails(const char *name, void (*run)(void)) {
     long tried = 0, passed_over = 0, calls = 0;
@@ -228,7 +324,9 @@ static bool each_fails(const char *name, void (*run)(void)) {
 int main(int count, char **arguments) {
     if (count != 2) return 2;
     snprintf(path, sizeof path, "%s/no_memory", arguments[1]);
-    bool passed = none_are_asked() && each_fails("in memory", run) && each_fails("over a file", run_over_file);
+    snprintf(other, sizeof other, "%s.dilluvas-new", path);
+    bool passed = none_are_asked() && links_are_used_again() && each_fails("in memory", run) && each_fails("over a file", run_over_file)
+        && each_fails("in steps", run_in_steps) && make_many() && each_fails("a rewriting", run_rewriting);
     unlink(path);
     return !passed;
 }

@@ -36,17 +36,16 @@ static void check(dilluvas_file *file, unsigned number, size_t len) {
     }
 }
 
-/* By the usual numbers: 16 MiB or more are rewritten once they are four times the pages. */
+/* By the usual numbers: 16 MiB or more are rewritten once they are four times the pages, in a few flushes. */
 static void a_file_stays_short(void) {
     dilluvas_file file = opened();
     off_t longest = 0;
     unsigned number;
-    for (number = 0; number < 20; number++) {
+    for (number = 0; number < 16; number++) {
         overwrite(&file, number, 10000, NULL);
         if (size_of(path) > longest) longest = size_of(path);
     }
-    /* as it is behind a flush */
-    IS(longest > 8 << 20 && longest < 16 << 20, true);
+    IS(longest > 16 << 20 && longest < 32 << 20, true);
     check(&file, number - 1, 10000);
     IS(dilluvas_file_close(&file), DILLUVAS_OK);
     file = opened();
@@ -54,23 +53,32 @@ static void a_file_stays_short(void) {
     end(&file);
 }
 
+/* At once, and in steps: those of a byte work for what was written alone. */
 static void a_file_is_rewritten_at_so_many_times_its_pages(void) {
-    const dilluvas_compact_at when = {3, 0, UINT64_MAX};
-    dilluvas_file file = opened();
-    overwrite(&file, 0, VALUE, NULL);
-    IS(compact(&file), DILLUVAS_OK);
-    off_t live = size_of(path);
-    for (unsigned number = 1; number < 15; number++) {
-        overwrite(&file, number, VALUE, &when);
-        IS(size_of(path) < 5 * live, true);
-        check(&file, number, VALUE);
+    static const uint64_t steps[] = {0, 1, 100000};
+    for (size_t i = 0; i < sizeof steps / sizeof *steps; i++) {
+        const dilluvas_compact_at when = {3, 0, UINT64_MAX, steps[i]};
+        dilluvas_file file = opened();
+        overwrite(&file, 0, VALUE, NULL);
+        IS(compact(&file), DILLUVAS_OK);
+        off_t live = size_of(path), longest = 0;
+        for (unsigned number = 1; number < 16; number++) {
+            overwrite(&file, number, VALUE, &when);
+            if (size_of(path) > longest) longest = size_of(path);
+            check(&file, number, VALUE);
+        }
+        IS(longest < (steps[i] == 0 ? 5 : 8) * live, true);
+        IS(size_of(other) >= 0, file.next != NULL);
+        end(&file);
+        IS(size_of(other), -1);
     }
-    IS(size_of(other), -1);
-    end(&file);
 }
 
 static void what_is_out_of_bounds_stays(void) {
-    const dilluvas_compact_at rows[] = {{2, UINT64_MAX, UINT64_MAX}, {2, 0, 1}, {UINT64_MAX, 0, UINT64_MAX}};
+    const dilluvas_compact_at rows[] = {
+        {2, UINT64_MAX, UINT64_MAX, 0}, {2, 0, 1, 0}, {UINT64_MAX, 0, UINT64_MAX, 0},
+        {2, UINT64_MAX, UINT64_MAX, 1}, {2, 0, 1, 1}, {UINT64_MAX, 0, UINT64_MAX, 1}
+    };
     for (size_t i = 0; i < sizeof rows / sizeof *rows; i++) {
         dilluvas_file file = opened();
         off_t before = 0;
@@ -86,8 +94,8 @@ static void what_is_out_of_bounds_stays(void) {
 }
 
 /* A rewriting that fails leaves the answer of the flush, and is tried again once the file has grown by half. */
-static void one_that_fails_is_tried_again(void) {
-    const dilluvas_compact_at when = {2, 0, UINT64_MAX};
+static void one_that_fails_is_tried_again(uint64_t step) {
+    const dilluvas_compact_at when = {2, 0, UINT64_MAX, step};
     dilluvas_file file = opened();
     IS(mkdir(other, 0777), 0);
     unsigned number = 0;
@@ -96,7 +104,7 @@ static void one_that_fails_is_tried_again(void) {
     off_t longest = size_of(path);
     IS(longest > 6 * KEYS * VALUE, true);
     IS(rmdir(other), 0);
-    for (; number < 12; number++) overwrite(&file, number, VALUE, &when);
+    for (; number < 14; number++) overwrite(&file, number, VALUE, &when);
     check(&file, number - 1, VALUE);
     IS(size_of(path) < longest, true);
     end(&file);
@@ -104,7 +112,7 @@ static void one_that_fails_is_tried_again(void) {
 
 /* A failing flush is told, and nothing is rewritten then. */
 static void refusals_are_told(void) {
-    const dilluvas_compact_at always = {2, 0, UINT64_MAX};
+    const dilluvas_compact_at always = {2, 0, UINT64_MAX, 0};
     dilluvas_file closed = DILLUVAS_FILE_CLOSED, used = opened(), *file = &used;
     bool had;
     IS(dilluvas_file_flush(NULL, NULL), DILLUVAS_ARGUMENTS);
@@ -129,7 +137,9 @@ int main(int count, char **arguments) {
     a_file_stays_short();
     a_file_is_rewritten_at_so_many_times_its_pages();
     what_is_out_of_bounds_stays();
-    one_that_fails_is_tried_again();
+    one_that_fails_is_tried_again(0);
+    one_that_fails_is_tried_again(1);
+    one_that_fails_is_tried_again(1 << 22);
     refusals_are_told();
     if (failures == 0) printf("space: passed\n");
     return failures != 0;

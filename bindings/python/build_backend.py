@@ -12,8 +12,12 @@ HERE = os.path.dirname(os.path.abspath(__file__))
 TOP = os.path.dirname(os.path.dirname(HERE))
 
 
+class UnsupportedOperation(Exception):
+    """What is asked for can't be made: pip looks for an error of this name."""
+
+
 def build_wheel(wheel_directory, config_settings=None, metadata_directory=None):
-    """Makes the wheel in a folder, and answers its name."""
+    """Makes the wheel in a folder, and returns its name. Raises FileNotFoundError where there is no library."""
     library = os.environ.get("DILLUVAS_SO", os.path.join(TOP, "bindings", "out", "libdilluvas.so"))
     if not os.path.exists(library):
         raise FileNotFoundError(f"{library} isn't there: bindings/build.sh makes it")
@@ -22,5 +26,5 @@ def build_wheel(wheel_directory, config_settings=None, metadata_directory=None):
 
 
 def build_sdist(sdist_directory, config_settings=None):
-    """There is none: the library is built by the toolchain of the proofs, which no pip has."""
-    raise NotImplementedError("the package has no source distribution: a wheel has the library that bindings/build.sh makes")
+    """There is none: the library is built by the toolchain of the proofs, which no pip has. Raises UnsupportedOperation."""
+    raise UnsupportedOperation("the package has no source distribution: a wheel has the library that bindings/build.sh makes")

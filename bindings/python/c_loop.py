@@ -31,6 +31,8 @@ class _File(ctypes.Structure):
         ("longest", c_size_t),
         ("keeps_room", c_bool),
         ("is_full", c_bool),
+        ("next", c_void_p),
+        ("failure", c_uint32),
     ]
 
 
@@ -99,12 +101,25 @@ class Loop:
         return system.fdatasync(descriptor) if kind == _SYNC else system.fsync(descriptor)
 
 
+class CFileHeld:
+    """What such a cache has to close, which the loop in C closes with its file."""
+
+    def __init__(self):
+        self.file = _File(descriptor=-1)
+        self.handle = self.file.cache
+
+    def close(self):
+        library().dilluvas_file_close(byref(self.file))
+
+
 class CFileCache(Cache):
     """An open cache over a file, as FileCache is one."""
 
+    _new_held = CFileHeld
+
     def __init__(self, loop, path, settings):
-        self._loop, self._file = loop, _File(descriptor=-1)
-        self._handle = self._file.cache
+        self._loop, self._file = loop, self._held.file
+        self._close_if_dropped()
         loop.set_hook()
         was_off = loop.system.is_off
         status = library().dilluvas_file_open(byref(self._file), os.fsencode(path), byref(settings))
@@ -129,6 +144,3 @@ class CFileCache(Cache):
         status = library().dilluvas_file_compact(byref(self._file))
         self._tell_power(was_off)
         check(status)
-
-    def _close(self):
-        library().dilluvas_file_close(byref(self._file))

@@ -12,6 +12,7 @@ import time
 import dilluvas
 from dilluvas import BATCH_OPEN, HELD, NOT_OPEN, OK, READ, WRITE, Cache, FileCache
 from inputs import CALLS, answer_in, in_child, status_elsewhere, status_of, written
+from steps import at, begun, fill, is_filled, names_beside, other, until_ended
 
 # So many seconds has a child: one that hangs is told as that.
 LONGEST = 20
@@ -183,6 +184,116 @@ def within_batches(folder):
             assert db["m"] == {b"k": b"v"} and db.flush() > 0
 
 
+def a_rewriting_is_the_parents(folder):
+    """A child takes no step of a rewriting that its parent began, and leaves the new file where it is, locked, however it lets the db go."""
+    path = os.path.join(folder, "in steps")
+    dilluvas.open(path).close()
+    os.chmod(path, 0o666)
+    held = [begun(path)]
+    content, inode = pathlib.Path(other(path)).read_bytes(), os.stat(path).st_ino
+
+    def flush(*compact_at):
+        for held[0].compact_at in compact_at or (held[0].compact_at,):
+            for _ in range(3):
+                assert held[0].flush() == 0
+        return OK
+
+    def flush_and_close():
+        with held[0]:
+            return flush()
+
+    def let_go():
+        held.clear()
+        gc.collect()
+        return OK
+
+    for leave, status in (
+        (flush, OK), (flush_and_close, OK), (lambda: held[0].close() or OK, OK), (let_go, OK), (lambda: flush(None, at(1)), OK),
+        (lambda: flush(at(0), at(1 << 30)), OK), (lambda: held[0]._cache.end_rewriting() or OK, OK), (lambda: status_of(held[0].compact), WRITE),
+    ):  # fmt: skip
+        found = in_time(leave)
+        assert found == status, (found, status)
+        assert pathlib.Path(other(path)).read_bytes() == content and status_elsewhere(lambda: FileCache(other(path))) == HELD
+        assert status_elsewhere(lambda: dilluvas.open(path)) == HELD and os.stat(path).st_ino == inode
+    assert held[0]._cache.is_rewriting
+    until_ended(held[0])
+    assert os.stat(path).st_ino != inode and is_filled(held[0], 3) and status_elsewhere(lambda: dilluvas.open(path)) == HELD
+    held.pop().close()
+    with dilluvas.open(path) as db:
+        assert is_filled(db, 3)
+
+
+def none_begins_in_a_child(folder):
+    os.mkdir(os.path.join(folder, "begun in a child"))
+    path = os.path.join(folder, "begun in a child", "maps")
+    with dilluvas.open(path, compact_at=None) as db:
+        for number in range(4):
+            fill(db, number)
+            db.flush()
+        db.compact_at = at(1)
+        assert in_time(lambda: db.flush() + len(names_beside(path)) - 1) == OK
+        db.compact_at = at(0)
+        assert in_time(lambda: db.flush() + len(names_beside(path)) - 1) == OK
+        assert names_beside(path) == ["maps"] and is_filled(db, 3)
+
+
+def between_steps(folder):
+    """A child that is forked while another thread takes a step frees nothing of that."""
+    path = os.path.join(folder, "between steps")
+    with dilluvas.open(path, compact_at=at(500000)) as db:
+        is_over = threading.Event()
+
+        def use():
+            number = 0
+            while not is_over.is_set():
+                fill(db, number)
+                db.flush()
+                for _ in range(20):
+                    db.flush()
+                number += 1
+
+        def leave():
+            statuses = {status_of(db.flush), status_of(db.maps)}
+            db.close()
+            gc.collect()
+            return OK if statuses <= {OK, WRITE, READ} else READ
+
+        thread = threading.Thread(target=use)
+        thread.start()
+        try:
+            for _ in range(60):
+                assert in_time(leave) == OK
+        finally:
+            is_over.set()
+            thread.join()
+    assert not os.path.exists(other(path))
+
+
+STEPS_AT_EXIT = """
+import os, sys, steps
+path = sys.argv[1]
+db = steps.begun(path)
+with open(steps.other(path), "rb") as new:
+    content = new.read()
+inode = os.stat(path).st_ino
+child = os.fork()
+if child == 0:
+    db.flush()
+    sys.exit(0)
+assert os.waitstatus_to_exitcode(os.waitpid(child, 0)[1]) == 0
+with open(steps.other(path), "rb") as new:
+    assert new.read() == content
+steps.until_ended(db)
+assert os.stat(path).st_ino != inode and steps.is_filled(db, 3)
+"""
+
+
+def in_steps_at_exit(folder):
+    """A child that ends like any program leaves the rewriting to its parent."""
+    ended = run_program(STEPS_AT_EXIT, os.path.join(folder, "steps at exit"))
+    assert (ended.returncode, ended.stderr) == (0, b""), ended
+
+
 AT_EXIT = """
 import os, sys, threading
 from dilluvas import FileCache
@@ -242,8 +353,8 @@ def a_limit_of_files(folder):
 
 
 TESTS = (
-    closes_alone, is_unlocked_for_a_child, neither_writes_nor_reads, between_calls, maps_are_the_parents, within_batches, at_exit,
-    a_limit_of_files,
+    closes_alone, is_unlocked_for_a_child, neither_writes_nor_reads, between_calls, maps_are_the_parents, within_batches,
+    a_rewriting_is_the_parents, none_begins_in_a_child, between_steps, in_steps_at_exit, at_exit, a_limit_of_files,
 )  # fmt: skip
 
 with tempfile.TemporaryDirectory() as made:

@@ -13,6 +13,7 @@ import sys
 import tempfile
 
 import dilluvas
+import steps
 from dilluvas import DISK_FULL, DiskFull, FileCache, Refused
 from inputs import answer_in, in_child, is_raised, status_of
 
@@ -140,11 +141,101 @@ def a_rewriting_gives_room(disk):
 
 def flushes_that_rewrite_need_no_more(disk):
     """A disk of a multiple of what the pages take never gets full."""
-    with dilluvas.open(disk.path, compact_at=dilluvas.CompactAt(least=0), **SMALL) as db:
+    with dilluvas.open(disk.path, compact_at=dilluvas.CompactAt(least=0, step=0), **SMALL) as db:
         for number in range(300):
             for key in range(50):
                 db["m"][b"%d" % key] = b"%d" % number * 100
             db.flush()
+
+
+def neither_do_steps(disk):
+    disk.set_size(20480)
+    for step in (1, 1000, steps.DEFAULT):
+        with dilluvas.open(disk.path, compact_at=steps.at(step)) as db:
+            for number in range(60):
+                steps.fill(db, number)
+                db.flush()
+            assert steps.is_filled(db, 59)
+        os.unlink(disk.path)
+
+
+def a_change_has_the_room_of_a_rewriting(disk):
+    """A change that has no room else ends the rewriting, and is made."""
+    disk.set_size(32768)
+    with steps.begun(disk.path, written=800000, **SMALL) as db:
+        disk.fill()
+        count = 0
+        while db._cache.is_rewriting:
+            # it is the first one that would be refused
+            db["n"][b"%05d" % count] = bytes(1000)
+            count += 1
+        assert count > 0 and sorted(os.listdir(disk.place)) == ["maps", "other"] and steps.failing(db) == (DISK_FULL, None)
+        with contextlib.suppress(DiskFull):
+            while True:
+                db["n"][b"%05d" % count] = bytes(1000)
+                count += 1
+        # no other begins: it would have no room
+        for _ in range(3):
+            db.flush()
+            assert not db._cache.is_rewriting
+        assert steps.is_filled(db, 3) and len(db["n"]) == count
+        os.unlink(os.path.join(disk.place, "other"))
+        db.compact()
+        assert steps.is_filled(db, 3) and len(db["n"]) == count and db.rewriting_failure is None
+    with dilluvas.open(disk.path) as db:
+        assert steps.is_filled(db, 3) and len(db["n"]) == count
+
+
+def a_map_is_dropped_in_the_room_of_a_rewriting(disk):
+    disk.set_size(32768)
+    with steps.begun(disk.path, written=800000, segment_size=4096) as db:
+        db._cache._kept.give_back()
+        disk.fill()
+        # neither this alone is enough, nor what the new file takes
+        other = os.path.join(disk.place, "other")
+        os.truncate(other, os.path.getsize(other) - 800000)
+        del db["m"]
+        assert db.maps() == [] and not db._cache.is_rewriting and sorted(os.listdir(disk.place)) == ["maps", "other"]
+
+
+def steps_without_room(disk):
+    """A step that can't be written ends the rewriting, and leaves the flush."""
+    disk.set_size(32768)
+    with steps.begun(disk.path) as db:
+        disk.fill()
+        before = os.stat(disk.path)
+        while db._cache.is_rewriting:
+            assert db.flush() == 0
+        after = os.stat(disk.path)
+        assert (after.st_ino, after.st_size) == (before.st_ino, before.st_size) and sorted(os.listdir(disk.place)) == ["maps", "other"]
+        assert steps.is_filled(db, 3) and steps.failing(db) == (DISK_FULL, errno.ENOSPC)
+        disk.set_size(98304)
+        # it is tried again once the file has grown by half
+        while os.stat(disk.path).st_ino == before.st_ino and os.path.getsize(disk.path) < 2 * before.st_size:
+            steps.fill(db, 4)
+            db.flush()
+            steps.until_ended(db)
+        assert os.stat(disk.path).st_ino != before.st_ino and steps.is_filled(db, 4) and db.rewriting_failure is None
+    with dilluvas.open(disk.path) as db:
+        assert steps.is_filled(db, 4)
+
+
+def none_begins_without_room(disk):
+    disk.set_size(24576)
+    with dilluvas.open(disk.path, compact_at=None) as db:
+        for number in range(4):
+            steps.fill(db, number)
+            db.flush()
+        db.compact_at = steps.at(1)
+        for _ in range(3):
+            assert db.flush() == 0 and not db._cache.is_rewriting and os.listdir(disk.place) == ["maps"]
+            assert steps.failing(db) == (DISK_FULL, None) and isinstance(db.rewriting_failure, DiskFull)
+        disk.set_size(49152)
+        assert db.flush() == 0 and not db._cache.is_rewriting
+        db.compact_at = steps.at(1)
+        assert db.flush() == 0 and db._cache.is_rewriting and steps.failing(db) == (DISK_FULL, None)
+        steps.until_ended(db)
+        assert steps.is_filled(db, 3) and db.size_on_disk() < 2 * steps.KEYS * steps.VALUE and db.rewriting_failure is None
 
 
 def a_rewriting_without_room_is_refused(disk):
@@ -285,7 +376,8 @@ def is_an_error():
 
 
 TESTS = (
-    small_segments, long_values, usual_settings, a_rewriting_gives_room, flushes_that_rewrite_need_no_more,
+    small_segments, long_values, usual_settings, a_rewriting_gives_room, flushes_that_rewrite_need_no_more, neither_do_steps,
+    a_change_has_the_room_of_a_rewriting, a_map_is_dropped_in_the_room_of_a_rewriting, steps_without_room, none_begins_without_room,
     a_rewriting_without_room_is_refused, what_others_take_and_give_back, none_is_made_without_room, room_goes_back, pages_too,
     a_batch_without_room, one_long_value, where_none_is_kept,
 )  # fmt: skip

@@ -15,6 +15,7 @@ import threading
 import dilluvas
 from dilluvas import OK, WRITE, Cache, FileCache
 from inputs import CALLS, status_of
+from steps import memory_counted
 
 PACKAGE = os.path.dirname(dilluvas.__file__)
 PLACE = "/dev/shm" if os.path.isdir("/dev/shm") else None
@@ -184,8 +185,9 @@ def compact_in_memory(_):
 
 # ---- The cases of maps.
 
-# A file is rewritten as often as it may be.
+# A file is rewritten as often as it may be, at once or in many steps.
 ALWAYS = dilluvas.CompactAt(2, 0, sys.maxsize)
+AT_ONCE, IN_STEPS = ALWAYS._replace(step=0), ALWAYS._replace(step=1)
 
 # It is written at once.
 SMALL = {"capacity": 256, "segment_size": 64}
@@ -262,21 +264,52 @@ def walk(db):
     assert [key for key, _ in db["m"].irange(b"14", b"17", reverse=True)] == [b"16", b"15", b"14"]
 
 
-def flush_and_rewrite(path):
-    db = filled_maps(path)
-    db.compact_at = ALWAYS
-    before, length = open_descriptors(), db.size_on_disk()
+def flush_and_rewrite(compact_at):
+    def case(path):
+        db = filled_maps(path)
+        db.compact_at = compact_at
+        before, length = open_descriptors(), db.size_on_disk()
 
-    def flush():
-        db.flush()
-        assert db.size_on_disk() < length
+        def flush():
+            db.flush()
+            assert db.size_on_disk() < length
 
-    yield flush
-    assert open_descriptors() == before
-    # as a process that is killed may leave one
-    with contextlib.suppress(FileNotFoundError):
-        os.unlink(path + ".dilluvas-new")
-    maps_go_on(db, path)
+        yield flush
+        assert before <= open_descriptors() <= before + 2 * db._cache.is_rewriting
+        # the next opening removes what it left
+        maps_go_on(db, path)
+
+    return case
+
+
+def in_steps(call, is_begun=True):
+    """Interrupts a call while the file is rewritten in steps: nothing is left half done, and the next rewriting comes to its end."""
+
+    def case(path):
+        db = filled_maps(path)
+        before = open_descriptors()
+        db.compact_at = IN_STEPS
+        if is_begun:
+            db.flush()
+            assert db._cache.is_rewriting
+        yield lambda: call(db)
+        if not db.closed:
+            # the new file, and its folder
+            assert before <= open_descriptors() <= before + 2 * db._cache.is_rewriting
+        if not db.closed and status_in_thread(db.flush) == OK:
+            db.compact_at = ALWAYS
+            assert status_in_thread(db.flush) == OK and not db._cache.is_rewriting
+            assert open_descriptors() == before and db.size_on_disk() < 2 * db._cache.live()
+        assert status_in_thread(db.close) == OK
+        assert open_descriptors() == before - 1
+        maps_go_on(dilluvas.open(path), path, (BEFORE, {}))
+
+    return case
+
+
+def end_rewriting(db):
+    db.compact_at = None
+    db.flush()
 
 
 def leave_db(path):
@@ -307,7 +340,13 @@ MAPS = (
     maps_case(set_in_batch, (AFTER, PENDING), (AFTER, {**PENDING, b"20": b"w" * 100})),
     maps_case(leave_batch, (AFTER, PENDING)),
     maps_case(walk),
-    flush_and_rewrite,
+    flush_and_rewrite(ALWAYS),
+    flush_and_rewrite(AT_ONCE),
+    in_steps(lambda db: db.flush(), is_begun=False),
+    in_steps(lambda db: db.flush()),
+    in_steps(end_rewriting),
+    in_steps(lambda db: db.compact()),
+    in_steps(lambda db: db.close()),
     maps_case(lambda db: db["m"].clear(), ({}, PENDING)),
     leave_db,
     open_db,
@@ -316,7 +355,7 @@ MAPS = (
 # ---- Signals, which come where no line begins.
 
 
-def signals(path):
+def signals(path, compact_at):
     """Interrupts at any moment, by a timer: no lock is left, each goes on or is refused, and what is durable is whole."""
     choose, statuses, came = random.Random(1), set(), []
 
@@ -325,7 +364,7 @@ def signals(path):
         raise KeyboardInterrupt
 
     signal.signal(signal.SIGALRM, interrupt)
-    db = dilluvas.open(path, compact_at=ALWAYS, **SMALL)
+    db = dilluvas.open(path, compact_at=compact_at, **SMALL)
     for _ in range(300):
         try:
             signal.setitimer(signal.ITIMER_REAL, 0.0001 + choose.random() / 100)
@@ -337,7 +376,7 @@ def signals(path):
         statuses.add(status)
         if status == WRITE:
             db.close()
-            db = dilluvas.open(path, compact_at=ALWAYS, **SMALL)
+            db = dilluvas.open(path, compact_at=compact_at, **SMALL)
         with db.batch():
             assert list(db["one"]) == sorted(db["one"]) and len(db["two"]) <= 40
         assert status_in_thread(db.flush) == OK
@@ -360,6 +399,11 @@ sys.unraisablehook = lambda found: unraised.append(found.exc_type)
 CASES = compact, flush, close, compact_in_memory, *map(construct, (absent, empty, existing)), *MAPS
 numbers = [lines_of(case) for case in CASES]
 with tempfile.TemporaryDirectory(dir=PLACE) as made:
-    signals(os.path.join(made, "maps"))
+    for number, rule in enumerate((ALWAYS, IN_STEPS)):
+        raised = len(unraised)
+        with memory_counted() as counts:
+            signals(os.path.join(made, f"maps {number}"), rule)
+        # an exception that comes into a finalizer leaves what that would have freed, and a count may be interrupted too
+        assert counts["begin"] - counts["end"] <= len(unraised) - raised + 5 and counts["begin"] > 20, counts
 assert set(unraised) <= {KeyboardInterrupt}, unraised
 print("interrupted:", sum(numbers), "lines")

@@ -138,7 +138,7 @@ def reading(path):
     with dilluvas.open(path) as db:
         for name in ("first", "second"):
             db[name].update({b"%05d" % number: b"v" * 20 for number in range(10000)})
-    dilluvas._file.os = reads = Reads()
+    dilluvas._file.os = dilluvas._paths.os = reads = Reads()
     try:
         with dilluvas.open(path, capacity=4096) as db:
             opened = reads.count
@@ -148,7 +148,7 @@ def reading(path):
             os.truncate(path, 100)
             assert status_of(db["second"].clear) == READ and "second" in db
     finally:
-        dilluvas._file.os = os
+        dilluvas._file.os = dilluvas._paths.os = os
 
 
 class Left(Exception):

@@ -27,7 +27,7 @@ ALWAYS = CompactAt(2, 0, sys.maxsize)
 def closed_under_threads(path):
     """A close waits for the calls of other threads, which are told so by Closed, and by nothing else."""
     for turn in range(10):
-        db = dilluvas.open(path, compact_at=ALWAYS, **SMALL)
+        db = dilluvas.open(path, compact_at=ALWAYS._replace(step=(0, 1, 100000, ALWAYS.step)[turn % 4]), **SMALL)
         told = []
 
         def use(number):
@@ -168,7 +168,7 @@ def in_another_process(path):
 INTERRUPTED = """
 import dilluvas, signal, sys
 signal.signal(signal.SIGINT, signal.default_int_handler)
-with dilluvas.open(sys.argv[1], compact_at=dilluvas.CompactAt(2, 0, sys.maxsize), segment_size=100) as db:
+with dilluvas.open(sys.argv[1], compact_at=dilluvas.CompactAt(2, 0, sys.maxsize, int(sys.argv[3])), segment_size=100) as db:
     for number in range(int(sys.argv[2]), 10**9):
         with db.batch():
             db["one"][b"k"] = db["two"][b"k"] = b"%d" % number
@@ -181,9 +181,10 @@ with dilluvas.open(sys.argv[1], compact_at=dilluvas.CompactAt(2, 0, sys.maxsize)
 def ended_by_ctrl_c(path):
     """Ctrl-C ends a program as any other, and what it was told is durable is there."""
     number, choose = 0, random.Random(1)
-    for _ in range(15):
+    for turn in range(15):
+        step = (1, 100000, ALWAYS.step)[turn % 3]
         with subprocess.Popen(
-            (sys.executable, "-c", INTERRUPTED, path, str(number)), stdout=subprocess.PIPE, stderr=subprocess.PIPE,
+            (sys.executable, "-c", INTERRUPTED, path, str(number), str(step)), stdout=subprocess.PIPE, stderr=subprocess.PIPE,
             env={**os.environ, "PYTHONPATH": HERE}, text=True,
         ) as program:  # fmt: skip
             first = program.stdout.readline()
@@ -196,10 +197,49 @@ def ended_by_ctrl_c(path):
         assert first and said.rstrip().endswith("KeyboardInterrupt") and program.returncode in (-signal.SIGINT, 1), said
         number = int((first + printed).split()[-1]) + 1
         with dilluvas.open(path) as db:
+            assert os.listdir(os.path.dirname(path)) == ["maps"]
             # of a batch that it left a part may be there
             lasts = int(db["one"][b"k"]), int(db["two"][b"k"]), len(db["numbers"]) - 1
             assert set(lasts) <= {number - 1, number} and sorted(lasts, reverse=True) == list(lasts), (lasts, number)
             assert [int(key) for key in db["numbers"]] == list(range(len(db["numbers"])))
+
+
+def no_finalizer_runs(path):
+    """Python ignores a Ctrl-C that comes into a finalizer or the callback of a weak reference, so none runs for what was closed."""
+    package, found = os.path.dirname(dilluvas.__file__), []
+
+    def profile(frame, event, _):
+        code = frame.f_code
+        if event == "call" and os.path.dirname(code.co_filename) in (package, os.path.dirname(weakref.__file__)):
+            if code.co_name in ("__del__", "_remove", "__call__", "dropped"):
+                found.append((code.co_name, code.co_filename))
+
+    def use(rule):
+        with dilluvas.open(path, compact_at=rule, **SMALL) as db:
+            for number in range(20):
+                db["m"][b"%d" % number] = b"v" * 100
+                db.flush()
+            db.compact()
+
+    def drop():
+        dilluvas.open(path, compact_at=ALWAYS._replace(step=1)).flush()
+
+    def run_under(profile, call, *arguments):
+        sys.setprofile(profile)
+        try:
+            call(*arguments)
+            gc.collect()
+        finally:
+            sys.setprofile(None)
+
+    gc.collect()
+    for step in (0, 1, 1000, ALWAYS.step):
+        run_under(profile, use, ALWAYS._replace(step=step))
+        assert not found, (step, found)
+    # what is dropped while it is open is closed by one, and so is its rewriting
+    run_under(profile, drop)
+    assert {name for name, _ in found} == {"dropped"} and not os.path.exists(path + ".dilluvas-new"), found
+    dilluvas.open(path).close()
 
 
 def causes_are_told(path):
@@ -263,5 +303,5 @@ if __name__ == "__main__":
     assert threading.active_count() == 1
     run(
         closed_under_threads, opened_by_threads, let_go_in_a_ring, opened_once, changed_while_walked, every_kind_of_bytes,
-        in_another_process, ended_by_ctrl_c, causes_are_told, signal_within_a_call,
+        in_another_process, no_finalizer_runs, ended_by_ctrl_c, causes_are_told, signal_within_a_call,
     )  # fmt: skip

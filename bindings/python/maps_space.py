@@ -7,6 +7,8 @@ import tempfile
 import threading
 
 import dilluvas
+import steps
+import steps_attacked
 from dilluvas import CompactAt, Refused
 from inputs import is_raised
 
@@ -32,7 +34,7 @@ def stays_short(path):
     # what is written between two flushes comes on top: 250 values, and the pages that they lie on
     most, longest = CompactAt().least + (8 << 20), 0
     with dilluvas.open(path) as db:
-        assert db.compact_at == CompactAt(4, 16 << 20, 1 << 30)
+        assert db.compact_at == CompactAt(4, 16 << 20, 2**64 - 1, 4 << 20)
         for number in range(60):
             overwrite(db, number)
             longest = max(longest, os.path.getsize(path))
@@ -43,8 +45,8 @@ def stays_short(path):
         check(db, 59)
 
 
-def at_so_many_times(path):
-    with dilluvas.open(path, compact_at=CompactAt(times=3, least=0, most=ALWAYS)) as db:
+def at_so_many_times(path, step):
+    with dilluvas.open(path, compact_at=CompactAt(times=3, least=0, step=step)) as db:
         overwrite(db, 0)
         db.compact()
         live = os.path.getsize(path)
@@ -53,15 +55,17 @@ def at_so_many_times(path):
             # it is looked at by the eighth, and some is written between two flushes
             assert os.path.getsize(path) < 5 * live
             check(db, number)
+            # it is done in one flush
+            assert step != 0 or not db._cache.is_rewriting
         db.compact()
         assert db._cache.live() <= db.size_on_disk() < 2 * live
 
 
-def is_rewritten_at_the_end(path):
+def is_rewritten_at_the_end(path, step):
     """A program that flushes at the end of its `with` alone has a short file too."""
     sizes = []
     for number in range(12):
-        with dilluvas.open(path, compact_at=CompactAt(least=0)) as db:
+        with dilluvas.open(path, compact_at=CompactAt(least=0, step=step)) as db:
             for key in range(100):
                 db["m"][b"%d" % key] = b"%d" % number * 500
         sizes.append(os.path.getsize(path))
@@ -83,27 +87,27 @@ def stays_as_it_is(path):
         os.unlink(path)
 
 
-def is_tried_again(path):
+def is_tried_again(path, step):
     """A rewriting that is refused leaves the flush as it is."""
-    with dilluvas.open(path, compact_at=CompactAt(2, 0, ALWAYS)) as db:
+    with dilluvas.open(path, compact_at=CompactAt(2, 0, ALWAYS, step)) as db:
         # no file can be made by the other name
         os.mkdir(path + ".dilluvas-new")
         for number in range(6):
             overwrite(db, number)
         check(db, 5)
         long = os.path.getsize(path)
-        assert long > 6 * KEYS * VALUE
+        assert long > 6 * KEYS * VALUE and steps.failing(db) == (dilluvas.NO_FILE, None)
         os.rmdir(path + ".dilluvas-new")
         for number in range(6, 12):
             overwrite(db, number)
         check(db, 11)
-        assert os.path.getsize(path) < long
+        assert os.path.getsize(path) < long and db.rewriting_failure is None
 
 
-def in_batches_and_memory(path):
+def in_batches_and_memory(path, step):
     """No batch is cut by one, and nothing is rewritten in memory."""
     for place in (path, ":memory:"):
-        with dilluvas.open(place, compact_at=CompactAt(2, 0, ALWAYS)) as db:
+        with dilluvas.open(place, compact_at=CompactAt(2, 0, ALWAYS, step)) as db:
             for number in range(5):
                 with db.batch():
                     for key in range(200):
@@ -113,9 +117,9 @@ def in_batches_and_memory(path):
             assert set(db["m"].values()) == {b"4" * 1000}
 
 
-def by_threads(path):
+def by_threads(path, step):
     """Threads that flush at once lose nothing, and rewrite it one at a time."""
-    with dilluvas.open(path, compact_at=CompactAt(2, 0, ALWAYS)) as db:
+    with dilluvas.open(path, compact_at=CompactAt(2, 0, ALWAYS, step)) as db:
 
         def change(name):
             for number in range(300):
@@ -136,7 +140,10 @@ def what_is_no_compact_at(path):
     for wrong in (4, "4", (4, 0, 1), True, {}):
         assert is_raised(TypeError, dilluvas.open, path, compact_at=wrong)
         assert not os.path.exists(path)
-    for wrong, error in ((CompactAt("4"), TypeError), (CompactAt(least=1.5), TypeError), (CompactAt(most=-1), OverflowError)):
+    for wrong, error in (
+        (CompactAt("4"), TypeError), (CompactAt(least=1.5), TypeError), (CompactAt(most=-1), OverflowError), (CompactAt(step=None), TypeError),
+        (CompactAt(step=2**64), OverflowError),
+    ):  # fmt: skip
         assert is_raised(error, dilluvas.open, path, compact_at=wrong)
         assert not os.path.exists(path)
     with dilluvas.open(path) as db:
@@ -145,9 +152,19 @@ def what_is_no_compact_at(path):
         assert db.compact_at == CompactAt() and is_raised(dilluvas.Closed, db.flush) and is_raised(ValueError, db.compact)
 
 
+def at_once_and_in_steps(test):
+    def both(path):
+        for step in (0, CompactAt().step):
+            test(path, step)
+            os.unlink(path)
+
+    return both
+
+
 TESTS = (
-    stays_short, at_so_many_times, is_rewritten_at_the_end, stays_as_it_is, is_tried_again, in_batches_and_memory, by_threads,
-    what_is_no_compact_at,
+    stays_short, stays_as_it_is, what_is_no_compact_at,
+    *map(at_once_and_in_steps, (at_so_many_times, is_rewritten_at_the_end, is_tried_again, in_batches_and_memory, by_threads)),
+    *steps.TESTS, *steps_attacked.TESTS,
 )  # fmt: skip
 
 for test in TESTS:

@@ -60,7 +60,7 @@ WRONG = {
     "dilluvas.open('p', compact_at=(4, 0, 1))": "TypeError",
     "dilluvas.Db('p', segment_size='1')": "TypeError",
     "dilluvas.open(':memory:').__init__(':memory:')": "Refused",
-    "dilluvas.CompactAt(1, 2, 3, 4)": "TypeError",
+    "dilluvas.CompactAt(1, 2, 3, 4, 5)": "TypeError",
     "dilluvas.Db()": "TypeError",
     "dilluvas.Map()": "TypeError",
     "dilluvas.open(':memory:')['m'][0]": "TypeError",

@@ -266,6 +266,7 @@ TESTS = (
     folders, a_rewriting_that_fails,
 )  # fmt: skip
 
-with tempfile.TemporaryDirectory(dir=PLACE) as made:
-    for test in TESTS:
-        test(made)
+if __name__ == "__main__":
+    with tempfile.TemporaryDirectory(dir=PLACE) as made:
+        for test in TESTS:
+            test(made)

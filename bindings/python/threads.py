@@ -8,7 +8,7 @@ import tempfile
 import threading
 import time
 
-from dilluvas import Cache, FileCache, Stale, _file
+from dilluvas import Cache, FileCache, Stale, _file, _paths
 
 # So many threads change so often a page each.
 THREADS, CHANGES = 8, 60
@@ -25,11 +25,11 @@ class Alone:
         return getattr(os, name)
 
     def __enter__(self):
-        _file.os = self
+        _file.os = _paths.os = self
         return self
 
     def __exit__(self, *_):
-        _file.os = os
+        _file.os = _paths.os = os
 
     @contextlib.contextmanager
     def _alone(self):

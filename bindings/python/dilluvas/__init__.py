@@ -1,4 +1,4 @@
-"""Ordered maps in a file, over a library whose calls are proved to do what their contracts say.
+"""Ordered maps in a file, over a library whose calls are proved to meet their contracts.
 
     import dilluvas
 
@@ -7,10 +7,10 @@
         for key, value in db["fruit"].irange(b"a", b"m"):
             print(key, value)
 
-`open` gives a `Db`, whose maps have names; a `Map` is a mapping of bytes to bytes, in the order of its keys. Threads may share both.
+`open` returns a `Db`, whose maps have names; a `Map` is a mapping of bytes to bytes, in key order. Threads may share both.
 
-Below them are pages, for who builds a structure of their own: a `Cache` has stamped pages of keys and values in memory, and a `FileCache`
-over a file. A file is either of maps or of pages of one's own.
+Below them are pages, for building other structures: a `Cache` has stamped pages of keys and values in memory, and a `FileCache` has them
+over a file. A file has either maps or pages of your own.
 """
 
 from ._db import Db, open

@@ -125,7 +125,8 @@ class Db:
     # ---- What is durable.
 
     def flush(self) -> int:
-        """Makes all changes durable, and answers how many bytes that wrote. It rewrites the file then, where `compact_at` says so."""
+        """Makes all changes durable, and answers how many bytes that wrote. Then it rewrites the file where `compact_at` says so, or takes a
+        step of that. What it answers, or is refused by, is the same whatever comes of the rewriting: `rewriting_failure` says that."""
         count = self._outside_of_batches(self._cache.flush)
         # on one line, as below
         with self._cache._turn: self._space.give_back(self._cache)  # fmt: skip
@@ -186,6 +187,24 @@ class Db:
     def compact_at(self, compact_at: Optional[CompactAt]) -> None:
         self._space = Space(compact_at)
 
+    @property
+    def rewriting_failure(self) -> Optional[Refused]:
+        """Why the last rewriting by a `flush` was refused, or None if none was since the file was opened, or since a rewriting replaced it, by
+        `flush` or `compact`. If the system refused something, its error is the `__cause__`.
+
+        The flush itself was done: all is durable, and the maps are what they were. But the file grows until a rewriting comes to its end, so
+        a program may look at this after a flush, and tell its user. It is tried again once the file has grown by half.
+
+        `DiskFull` if the disk has too little room to begin, or a change took the room of the new file. The `status` of others is NO_ACCESS,
+        NO_FILE or HELD if the folder takes no new file, or the path doesn't lead to the file by now; READ, WRITE or MEMORY; 111, that of a
+        full log, if so much was changed meanwhile that the new file got too long; CORRUPTION if it has other pages than the old one, or the
+        old one is damaged. At WRITE later calls may be refused too: then the folder couldn't be synced.
+
+        A `compact` that is refused raises that itself and changes nothing here, and neither does a Ctrl-C, or a forked child, which takes no
+        step. In memory this is always None.
+        """
+        return self._cache.rewriting_failure if isinstance(self._cache, FileCache) else None
+
     def size_on_disk(self) -> int:
         """How many bytes the file has, or in memory the log. What isn't written yet is among them in memory alone."""
         return self._cache.size()
@@ -199,7 +218,7 @@ class Db:
     @property
     def closed(self) -> bool:
         """Whether it is closed."""
-        return not self._cache._handle.is_open
+        return not self._cache._held.handle.is_open
 
     def close(self) -> None:
         """Closes the db, once the calls and batches of other threads are done. Nothing is flushed. Closing it again does nothing."""

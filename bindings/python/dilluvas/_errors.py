@@ -1,14 +1,14 @@
-"""What a call is refused by."""
+"""The exceptions that a refused call raises."""
 
 import errno
 from typing import Any, Optional
 
-from ._library import DISK_FULL, GONE, KEY_TOO_LONG, NAME_TOO_LONG, NOT_OPEN, OK, STALE, VALUE_TOO_LONG, text_of
+from ._library import DISK_FULL, GONE, KEY_TOO_LONG, MEMORY, NAME_TOO_LONG, NOT_OPEN, OK, READ, STALE, VALUE_TOO_LONG, text_of
 
 
 class Refused(Exception):
-    """A call was refused, and has changed nothing: `status` is the number that dilluvas.h has for why. What the system said, where it was the
-    system that refused something, is its `__cause__`."""
+    """A call was refused, and has changed nothing. `status` is the number that dilluvas.h has for the reason. If the system refused
+    something, its error is the `__cause__`."""
 
     def __init__(self, status: int) -> None:
         super().__init__(status)
@@ -19,7 +19,7 @@ class Refused(Exception):
 
 
 class Stale(Refused):
-    """The page has another stamp, or the name another root: `present` is it."""
+    """The page has another stamp, or the name another root: `present` is that stamp or root."""
 
     def __init__(self, present: Optional[int]) -> None:
         super().__init__(STALE)
@@ -40,7 +40,7 @@ class Gone(Refused):
 
 
 class Closed(Refused, ValueError):
-    """What the call is for was closed: by `close`, at the end of a `with`, or by another thread."""
+    """The object was closed: by `close`, at the end of a `with`, or by another thread."""
 
     def __init__(self) -> None:
         super().__init__(NOT_OPEN)
@@ -53,12 +53,12 @@ class Closed(Refused, ValueError):
 
 
 class TooLong(Refused, ValueError):
-    """The key, the value or the name has more bytes than one may have, 2^31 - 1: `status` tells which."""
+    """The key, the value or the name has more than the limit of 2^31 - 1 bytes: `status` says which."""
 
 
 class DiskFull(Refused):
-    """The disk has no room for the change, which was not begun: all that was changed before is there, and can be read and flushed. Changes
-    go on once there is room: by `compact`, which is refused so too where the new file has none, or by what is taken away elsewhere."""
+    """The disk has no room for the change, which was not begun. All earlier changes are there, and can be read and flushed. Changes continue
+    once there is room: by `compact`, which is refused like this too if the new file has none, or if something is deleted elsewhere."""
 
     def __init__(self) -> None:
         super().__init__(DISK_FULL)
@@ -68,30 +68,46 @@ class DiskFull(Refused):
 
 
 def is_of_room(error: OSError) -> bool:
-    """Whether the system refused something for want of room."""
+    """Whether the system refused something for lack of room."""
     return error.errno in (errno.ENOSPC, errno.EDQUOT)
 
 
 def refusal(error: OSError, status: int) -> Refused:
-    """What stands for an error of the system: this status, or that there is no room."""
+    """The exception for an error of the system: this status, or `DiskFull`."""
     return DiskFull() if is_of_room(error) else Refused(status)
 
 
 class Told(int):
-    """A status, and what the system said of it."""
+    """A status, and the system's error that caused it."""
 
     cause: OSError
 
     @classmethod
     def by(cls, status: int, error: OSError) -> "Told":
         told = cls(status)
-        # a new one: what was called, and with what, isn't kept alive
-        told.cause = OSError(error.errno, error.strerror)
+        told.cause = _anew(error)
         return told
 
 
+# A new error, so that the frames and arguments of the call aren't kept alive.
+def _anew(error: OSError) -> OSError:
+    return OSError(error.errno, error.strerror)
+
+
+def kept(error: Exception) -> Refused:
+    """The exception for one that a call raised, to be kept: the call isn't kept alive by it."""
+    if isinstance(error, Refused):
+        told, cause = _refused(error.status), error.__cause__
+    else:
+        # what tells no status has read
+        told, cause = refusal(error, READ) if isinstance(error, OSError) else Refused(MEMORY), error
+    if isinstance(cause, OSError):
+        told.__cause__ = _anew(cause)
+    return told
+
+
 def check(status: int) -> None:
-    """Raises what a status stands for, unless it is OK."""
+    """Raises the exception of a status, unless it is OK."""
     if status == OK:
         return
     if isinstance(status, Told):

@@ -1,7 +1,7 @@
-"""The functions of the library, as dilluvas.h declares them, and what they are given.
+"""The functions of the library, as dilluvas.h declares them, and their arguments.
 
-It is the file that the variable DILLUVAS_SO names, or else the one that was installed with this package, or libdilluvas.so of the folder
-that bindings/build.sh fills; it is loaded as the first call is made.
+The library is the file that the variable DILLUVAS_SO names, or else the one that was installed with this package, or libdilluvas.so of the
+folder that bindings/build.sh fills. The first call loads it.
 """
 
 import ctypes
@@ -13,15 +13,15 @@ from collections.abc import Iterable, Iterator
 from ctypes import POINTER, byref, c_bool, c_char_p, c_size_t, c_uint32, c_uint64, c_void_p
 from typing import Any, Callable, SupportsIndex, Union
 
-# What stands for bytes in a call.
+# The types of bytes that a call takes.
 BytesLike = Union[bytes, bytearray, memoryview]
 
 OK, STALE, GONE, NONE, SHORT, NOT_OPEN, ALREADY_OPEN, ARGUMENTS, NO_BATCH, INDEX, NOT_OVER_FILE, KEY_TOO_LONG, VALUE_TOO_LONG = range(13)
 MEMORY, READ, WRITE, CORRUPTION, NEEDS = range(16, 21)
 NO_FILE, NO_ACCESS, HELD, DISK_FULL = range(32, 36)
-RESERVED_ID, BATCH_OPEN, NAME_TOO_LONG = 101, 108, 110
+RESERVED_ID, BATCH_OPEN, NAME_TOO_LONG, LOG_FULL = 101, 108, 110, 111
 
-# The kinds of a bound, and the sides on which a pair is looked for.
+# The kinds of a bound, and the sides on which to look for a pair.
 INCLUDED, EXCLUDED, UNBOUNDED = range(3)
 ABOVE, FROM, BELOW, UP_TO, FIRST, LAST = range(6)
 
@@ -109,7 +109,7 @@ _CALLS: dict[str, tuple[Any, ...]] = {
 
 @functools.lru_cache(maxsize=None)
 def library() -> ctypes.CDLL:
-    """The library, which is loaded by the first call."""
+    """The library, which the first call loads."""
     here = os.path.dirname(os.path.abspath(__file__))
     installed = os.path.join(here, "libdilluvas.so")
     built = os.path.normpath(os.path.join(here, "..", "..", "out", "libdilluvas.so"))
@@ -127,7 +127,7 @@ def _function(name: str) -> Callable[..., int]:
 
 
 def call(name: str, *arguments: Any) -> int:
-    """Calls a function of the library, and answers its status."""
+    """Calls a function of the library, and returns its status."""
     return _function(name)(*arguments)
 
 
@@ -139,7 +139,7 @@ def text_of(status: int) -> str:
 
 
 def number_of(value: SupportsIndex) -> int:
-    """A number that C takes as it is: ctypes cuts one of more than 64 bits."""
+    """A number that C takes as it is: ctypes truncates one of more than 64 bits."""
     number = operator.index(value)
     if not 0 <= number < 1 << 64:
         raise OverflowError(f"{number} is no number of 64 bits")
@@ -147,11 +147,11 @@ def number_of(value: SupportsIndex) -> int:
 
 
 def bytes_of(value: BytesLike, what: str) -> bytes:
-    """The bytes of a key or another thing, which an error names."""
+    """The bytes of a key or of another value, which `what` names in an error."""
     if type(value) is bytes:
         return value
     if isinstance(value, (bytes, bytearray, memoryview)):
-        # a class of its own may tell another length than it has
+        # a subclass may report another length than it has
         return memoryview(value).tobytes()
     if isinstance(value, str):
         raise TypeError(f"{what} is bytes, and no str: encode it, as by {value[:20]!r}.encode()")
@@ -159,13 +159,13 @@ def bytes_of(value: BytesLike, what: str) -> bytes:
 
 
 def sized(value: BytesLike, what: str) -> tuple[bytes, int]:
-    """The same, and their length: the two that a call is given."""
+    """The same, and their length: the two arguments of a call."""
     data = bytes_of(value, what)
     return data, len(data)
 
 
 def written(ask: Callable[..., int]) -> tuple[int, bytes]:
-    """The status of a call, and the bytes that it wrote: it is given a buffer, its length, and where to say how long one has to be."""
+    """The status of a call, and the bytes that it wrote. It gets a buffer, its length, and where to put the length that is needed."""
     room, needed = ctypes.create_string_buffer(256), c_size_t()
     status = ask(room, len(room), byref(needed))
     while status == SHORT:

@@ -13,22 +13,22 @@ from ._pieces import Bound, Pair, Range, nearest
 
 _Other = TypeVar("_Other")
 
-# Stands for what wasn't given.
+# Stands for an argument that wasn't given.
 _NOTHING: Any = object()
 
 
 class Map(MutableMapping[bytes, bytes]):
     """An ordered map of a db, by its name: keys and values are bytes, and the pairs are in the order of their keys, byte by byte.
 
-    A key or value may be given as a bytearray or a memoryview too, and comes back as bytes. A `str` is refused: encode it. Where a map of
-    this name was never made, or was dropped, there is an empty one, and the first key that is set makes it.
+    A key or value may also be given as a bytearray or a memoryview, and comes back as bytes. A `str` is refused: encode it. A map that was
+    never made, or was dropped, reads as an empty one, and the first key that is set makes it.
 
-    Each call is one step, which threads may make at once. `len`, `==`, `clear`, `update` and loops are many: what others change meanwhile
-    they may see or not, but each key comes once, in its place, and no change makes a loop fail. A loop reads one leaf of the map at a time.
+    Each call is one step, and threads may call at once. `len`, `==`, `clear`, `update` and loops are many steps. They may or may not see
+    concurrent changes, but each key comes once, in its place, and no change makes a loop fail. A loop reads one leaf of the map at a time.
 
-    Every call answers `Closed`, which is a ValueError, once the db is closed; TooLong, which is one too, for a key or a value of 2^31 bytes
-    or more; DiskFull, for a change that the disk has no room for; and Refused where the file can't be read or written or is damaged, or
-    memory ran out. None of these changes anything, but that a write which failed may be there when the file is opened again.
+    Every call raises `Closed`, which is a ValueError, once the db is closed; TooLong, which is one too, for a key or a value of 2^31 bytes
+    or more; DiskFull, for a change that the disk has no room for; and Refused if the file can't be read or written or is damaged, or
+    memory ran out. None of these changes anything, except that a write that failed may be there when the file is reopened.
     """
 
     __slots__ = ("_cache", "_name")
@@ -58,7 +58,7 @@ class Map(MutableMapping[bytes, bytes]):
         check(status)
         return value
 
-    # Whether a call finds something, which isn't copied.
+    # Whether a call finds something, without copying it.
     def _is_there(self, call: str, *arguments: Any) -> bool:
         status = self._ask(call, *arguments, None, 0, byref(c_size_t()))
         if status not in (NONE, SHORT):
@@ -93,12 +93,12 @@ class Map(MutableMapping[bytes, bytes]):
     def get(self, key: BytesLike, default: _Other) -> Union[bytes, _Other]: ...
 
     def get(self, key: BytesLike, default: Any = None) -> Any:
-        """The value of a key, or the default where it has none."""
+        """The value of a key, or the default if it has none."""
         value = self._find(key)
         return default if value is None else value
 
     def compare_and_swap(self, key: BytesLike, old: Optional[BytesLike], new: Optional[BytesLike]) -> bool:
-        """Sets a key to the new value if it has the old one, and answers whether it had: else nothing changes. None stands for no value."""
+        """Sets a key to the new value if it has the old one, and returns whether it had; otherwise nothing changes. None means no value."""
         status = self._ask("cas", *sized(key, "a key"), *_perhaps(old), *_perhaps(new))
         if status == STALE:
             return False
@@ -113,8 +113,8 @@ class Map(MutableMapping[bytes, bytes]):
     def pop(self, key: BytesLike, default: _Other) -> Union[bytes, _Other]: ...
 
     def pop(self, key: BytesLike, default: Any = _NOTHING) -> Any:
-        """Takes a key out, and answers its value, or the default where it has none; where none is given that is a KeyError. Of threads
-        that pop one key one gets it."""
+        """Removes a key and returns its value. A key without a value gives the default, or a KeyError if there is no default. If several
+        threads pop one key, one gets it."""
         while True:
             value = self._find(key)
             if value is None:
@@ -125,7 +125,7 @@ class Map(MutableMapping[bytes, bytes]):
                 return value
 
     def setdefault(self, key: BytesLike, default: Optional[BytesLike] = None) -> bytes:
-        """The value of a key, which is set to the default where it has none. A default has to be given: no value is None."""
+        """The value of a key, which is set to the default if it has none. A default is required: no value is None."""
         new = bytes_of(default, "a default")  # type: ignore[arg-type]
         while True:
             value = self._find(key)
@@ -137,15 +137,15 @@ class Map(MutableMapping[bytes, bytes]):
     # ---- The order.
 
     def first(self) -> Optional[Pair]:
-        """The pair with the least key, or None where there is no pair."""
+        """The pair with the least key, or None if there is no pair."""
         return nearest(self._cache, self._name, FIRST, b"")
 
     def last(self) -> Optional[Pair]:
-        """The pair with the greatest key, or None where there is no pair."""
+        """The pair with the greatest key, or None if there is no pair."""
         return nearest(self._cache, self._name, LAST, b"")
 
     def popitem(self) -> Pair:
-        """Takes out the pair with the greatest key, and answers it. Where there is no pair that is a KeyError."""
+        """Removes the pair with the greatest key, and returns it. Raises KeyError if there is no pair."""
         while True:
             pair = self.last()
             if pair is None:
@@ -160,10 +160,10 @@ class Map(MutableMapping[bytes, bytes]):
         inclusive: tuple[bool, bool] = (True, False),
         reverse: bool = False,
     ) -> Iterator[Pair]:
-        """The pairs whose keys lie from `start` to `stop`, in their order, or in the reverse one. None stands for no bound.
+        """The pairs with keys from `start` to `stop`, in key order or in reverse. None means no bound.
 
-        `inclusive` says of each bound whether a key that is equal to it is among them: of the first one it is else, and of the second one
-        not. With `reverse` the bounds stay as they are, and one pair is read at a time.
+        `inclusive` says for each bound whether a key equal to it is included: by default the first one is, and the second one isn't. With
+        `reverse` the bounds stay as they are, and one pair is read at a time.
         """
         has_start, has_stop = inclusive
         found = self._range(Bound.at(start, bool(has_start)), Bound.at(stop, bool(has_stop)))
@@ -190,24 +190,24 @@ class Map(MutableMapping[bytes, bytes]):
         return self._is_there("next", FIRST, b"", 0)
 
     def items(self) -> "Items":
-        """The pairs, in their order."""
+        """The pairs, in key order."""
         return Items(self)
 
     def keys(self) -> "Keys":
-        """The keys, in their order."""
+        """The keys, in order."""
         return Keys(self)
 
     def values(self) -> "Values":
-        """The values, in the order of their keys."""
+        """The values, in key order."""
         return Values(self)
 
     def clear(self) -> None:
-        """Takes all pairs out, and leaves a map of this name, if the disk has room for one. A crash leaves all pairs, or none, and then
-        perhaps no map."""
+        """Removes all pairs, and leaves a map of this name if the disk has room for one. A crash leaves all pairs or none, and then perhaps
+        no map."""
         had = c_bool()
         check(self._ask("drop", byref(had)))
         if had.value:
-            # the pairs are out, so it isn't refused
+            # the pairs are removed, so it isn't refused
             with contextlib.suppress(DiskFull):
                 self._cache.open_tree(self._name)
 
@@ -229,7 +229,7 @@ class Map(MutableMapping[bytes, bytes]):
 
 
 class Keys(KeysView[bytes]):
-    """The keys of a map, in their order."""
+    """The keys of a map, in order."""
 
     __slots__ = ()
     _mapping: Map
@@ -239,7 +239,7 @@ class Keys(KeysView[bytes]):
 
 
 class Items(ItemsView[bytes, bytes]):
-    """The pairs of a map, in their order."""
+    """The pairs of a map, in key order."""
 
     __slots__ = ()
     _mapping: Map
@@ -252,7 +252,7 @@ class Items(ItemsView[bytes, bytes]):
 
 
 class Values(ValuesView[bytes]):
-    """The values of a map, in the order of their keys."""
+    """The values of a map, in key order."""
 
     __slots__ = ()
     _mapping: Map
@@ -267,6 +267,6 @@ class Values(ValuesView[bytes]):
         return any(value == found for found in self)
 
 
-# What a call is told of a value that may not be there: whether it is, and its bytes.
+# The arguments for an optional value: whether there is one, and its bytes.
 def _perhaps(value: Optional[BytesLike]) -> tuple[bool, bytes, int]:
     return (False, b"", 0) if value is None else (True, *sized(value, "a value"))

@@ -1,5 +1,6 @@
-"""Handles, each of which has one owner, and threads that share one."""
+"""Handles, each with one owner, and threads that share one."""
 
+import itertools
 import os
 import threading
 import weakref
@@ -7,6 +8,7 @@ from ctypes import byref
 from types import TracebackType
 from typing import Any, Callable, NoReturn, Optional, TypeVar
 
+from ._dropped import close_if_dropped, is_closed
 from ._errors import check
 from ._library import WRITE, Handle
 from ._library import call as call_library
@@ -15,24 +17,41 @@ _Self = TypeVar("_Self", bound="Owner")
 _Answer = TypeVar("_Answer")
 
 
+class Held:
+    """What an owner has to close, also where it is dropped."""
+
+    def __init__(self) -> None:
+        self.handle = Handle()
+
+    def close(self) -> None:
+        """Closes it. Closing it again does nothing."""
+        # if it was never opened the library may not be there
+        if self.handle.is_open:
+            call_library("close", byref(self.handle))
+
+
 class Owner:
-    """What owns a handle, in which one call at a time is under way."""
+    """The owner of a handle, which makes one call at a time."""
 
-    _handle: Handle
+    _held: Held
 
-    # Whether every call is refused, since it isn't known what the handle or its file has.
+    # Whether every call is refused, since the contents of the handle or its file are unknown.
     _is_lost = False
 
-    # What a thread has as long as the calls of others wait, and what it has in a call.
+    # What a thread holds while the calls of others wait, and what it holds in a call.
     _turn: threading.RLock
     _lock: threading.RLock
 
     def __new__(cls: type[_Self], *_: Any, **__: Any) -> _Self:
         self = super().__new__(cls)
         self._turn, self._lock = threading.RLock(), threading.RLock()
-        self._handle = Handle()
-        _OWNERS.add(self)
+        self._held = cls._new_held()
+        _register(self)
         return self
+
+    @staticmethod
+    def _new_held() -> Held:
+        return Held()
 
     def __enter__(self: _Self) -> _Self:
         return self
@@ -42,49 +61,47 @@ class Owner:
     ) -> None:
         self.close()
 
-    def __del__(self) -> None:
-        # One that couldn't be made has none. Nobody else has a call under way, so no lock is waited for: who has it may be gone.
-        if hasattr(self, "_handle"):
-            self._close()
-
     def __reduce_ex__(self, _: Any) -> NoReturn:
         raise TypeError("a cache can't be copied or pickled: a handle has one owner")
 
-    # Does something once no other thread is in a call. What a signal handler or a finalizer does within a call of its own thread is refused:
-    # the order of what that call writes would be lost.
+    # Makes a call once no other thread is in one. A call from a signal handler or a finalizer within a call of its own thread is refused: it
+    # would reorder what that call writes.
     def _in_turn(self, call: Callable[..., _Answer], *arguments: Any) -> _Answer:
         if is_owned(self._lock):
             raise RuntimeError("a call of this cache was interrupted by this one, and isn't done")
         # on one line, so that whoever traces lines can't raise between the call and the unlocking
         with self._turn, self._lock: return call(*arguments)  # fmt: skip
 
-    # In a child that was forked: a thread that isn't there holds a lock for ever, and what it began with the handle stays half done.
+    # From here on what is held is closed where the owner is dropped. No call is running then, so that waits for no lock, whose holder may be gone.
+    def _close_if_dropped(self) -> None:
+        close_if_dropped(self, self._held.close)
+
+    # In a forked child a thread that isn't there may hold a lock for ever, and what it began with the handle stays half done.
     def _free_locks(self) -> None:
         if not (_is_free(self._turn) and _is_free(self._lock)):
-            self._turn, self._lock, self._handle, self._is_lost = threading.RLock(), threading.RLock(), Handle(), True
+            self._turn, self._lock, self._held.handle, self._is_lost = threading.RLock(), threading.RLock(), Handle(), True
 
     def _ask(self, name: str, *arguments: Any) -> int:
         return self._in_turn(self._answer, name, *arguments)
 
     def _answer(self, name: str, *arguments: Any) -> int:
-        return WRITE if self._is_lost else call_library(name, byref(self._handle), *arguments)
+        return WRITE if self._is_lost else call_library(name, byref(self._held.handle), *arguments)
 
     def _do(self, name: str, *arguments: Any) -> None:
         check(self._ask(name, *arguments))
 
     def close(self) -> None:
-        """Closes the cache, once the calls of other threads are done. Closing it again does nothing."""
+        """Closes the cache after the calls of other threads are done. Closing it again does nothing."""
         self._in_turn(self._close)
 
     def _close(self) -> None:
-        # for one that was never opened the library may not be there
-        if self._handle.is_open:
-            call_library("close", byref(self._handle))
+        self._held.close()
         self._is_lost = False
+        is_closed(self)
 
 
 def is_owned(lock: threading.RLock) -> bool:
-    """Whether this thread has a lock."""
+    """Whether this thread holds a lock."""
     return bool(getattr(lock, "_is_owned")())
 
 
@@ -95,12 +112,29 @@ def _is_free(lock: threading.RLock) -> bool:
     return is_free
 
 
-_OWNERS: "weakref.WeakSet[Owner]" = weakref.WeakSet()
+# The owners, in the order in which they were made. References to those that are gone are taken out once there are twice as many as there were
+# left the last time.
+_NUMBERS = itertools.count()
+_OWNERS: "dict[int, weakref.ref[Owner]]" = {}
+_most_owners = 64
+
+
+def _register(owner: Owner) -> None:
+    global _most_owners
+    _OWNERS[next(_NUMBERS)] = weakref.ref(owner)
+    if len(_OWNERS) > _most_owners:
+        # a copy, since other threads register theirs meanwhile
+        for number, reference in _OWNERS.copy().items():
+            if reference() is None:
+                _OWNERS.pop(number, None)
+        _most_owners = 2 * len(_OWNERS) + 64
 
 
 def _free_locks() -> None:
-    for owner in _OWNERS:
-        owner._free_locks()
+    for reference in _OWNERS.copy().values():
+        owner = reference()
+        if owner is not None:
+            owner._free_locks()
 
 
 os.register_at_fork(after_in_child=_free_locks)

@@ -13,7 +13,7 @@ from ._owner import Owner
 
 
 class Page(NamedTuple):
-    """A page, copied out. The values of an index are pages, in eight bytes, the lowest first."""
+    """A copy of a page. The values of an index are pages, in eight bytes, the lowest first."""
 
     stamp: int
     is_index: bool
@@ -21,7 +21,7 @@ class Page(NamedTuple):
 
 
 class Cache(Owner):
-    """An open cache over a new log in memory. It is closed by `close`, or where a `with` ends, and nothing is flushed then."""
+    """An open cache over a new log in memory. `close`, or the end of a `with`, closes it, and flushes nothing."""
 
     _settings: Union[Settings, FileSettings]
 
@@ -34,6 +34,7 @@ class Cache(Owner):
         clean_every: SupportsIndex = 16,
     ) -> None:
         settings = Settings(*map(number_of, (capacity, interval, segment_size, blob_limit, clean_every)))
+        self._close_if_dropped()
         self._do("open_memory", byref(settings))
         self._settings = settings
 
@@ -46,13 +47,13 @@ class Cache(Owner):
         return now.value
 
     def allocate(self, pairs: Iterable[tuple[BytesLike, BytesLike]] = ()) -> tuple[int, int]:
-        """Puts a leaf of these pairs, whose keys ascend, on a page, and answers the page and its stamp."""
+        """Puts a leaf of these pairs, whose keys ascend, on a page, and returns the page and its stamp."""
         data, page, stamp = encoded(pairs), c_uint64(), c_uint64()
         self._do("allocate", data, len(data), byref(page), byref(stamp))
         return page.value, stamp.value
 
     def get(self, page: SupportsIndex) -> Optional[Page]:
-        """A page, or None where there is no such page."""
+        """A page, or None if there is no such page."""
         number, found, room = number_of(page), Found(), ctypes.create_string_buffer(1)
         status = SHORT
         while status == SHORT:
@@ -64,7 +65,7 @@ class Cache(Owner):
         return Page(found.stamp, found.is_index, list(decoded(ctypes.string_at(room, found.needed))))
 
     def value(self, page: SupportsIndex, key: BytesLike) -> Optional[bytes]:
-        """The value of a key of a leaf, or None where there is no such page or key."""
+        """The value of a key of a leaf, or None if there is no such page or key."""
         number, the_key, stamp = number_of(page), sized(key, "a key"), c_uint64()
         status, value = written(lambda *room: self._ask("value", number, *the_key, byref(stamp), *room))
         if status in (GONE, NONE):
@@ -73,20 +74,20 @@ class Cache(Owner):
         return value
 
     def set(self, page: SupportsIndex, stamp: SupportsIndex, key: BytesLike, value: BytesLike) -> int:
-        """Maps a key of a leaf to a value, and answers the page's new stamp."""
+        """Sets a key of a leaf to a value, and returns the page's new stamp."""
         return self._swap("set", page, stamp, *sized(key, "a key"), *sized(value, "a value"))
 
     def delete(self, page: SupportsIndex, stamp: SupportsIndex, key: BytesLike) -> int:
-        """Takes a key out of a leaf, whether or not it is there, and answers the page's new stamp."""
+        """Removes a key from a leaf, whether or not it is there, and returns the page's new stamp."""
         return self._swap("del", page, stamp, *sized(key, "a key"))
 
     def replace(self, page: SupportsIndex, stamp: SupportsIndex, pairs: Iterable[tuple[BytesLike, BytesLike]]) -> int:
-        """Puts a leaf of these pairs on a page in place of what it held, and answers the page's new stamp."""
+        """Replaces the contents of a page with a leaf of these pairs, and returns the page's new stamp."""
         data = encoded(pairs)
         return self._swap("replace", page, stamp, data, len(data))
 
     def free(self, page: SupportsIndex, stamp: SupportsIndex) -> int:
-        """Frees a page, whose number an `allocate` uses again."""
+        """Frees a page, whose number an `allocate` may reuse."""
         return self._swap("free", page, stamp)
 
     def root(self, name: BytesLike) -> Optional[int]:
@@ -99,7 +100,7 @@ class Cache(Owner):
         return page.value
 
     def cas_root(self, name: BytesLike, old: Optional[int], new: Optional[int]) -> None:
-        """Gives a name another root page, or none, if its root is the old one. None stands for no root, and page 0 is the cache's own."""
+        """Gives a name another root page, or none, if its root is the old one. None means no root, and page 0 is the cache's own."""
         if 0 in (old, new):
             raise Refused(RESERVED_ID)
         root = c_uint64(number_of(old or 0))
@@ -109,7 +110,7 @@ class Cache(Owner):
         check(status)
 
     def open_tree(self, name: BytesLike) -> int:
-        """The root page of a name. A name that has none is given an index over an empty leaf."""
+        """The root page of a name. A name that has none gets an index over an empty leaf."""
         page = c_uint64()
         self._do("open_tree", *sized(name, "a name"), byref(page))
         return page.value
@@ -133,7 +134,7 @@ class Cache(Owner):
         return number.value
 
     def flush(self) -> int:
-        """Makes all that is pending durable, and answers how many bytes that wrote."""
+        """Makes all that is pending durable, and returns how many bytes that wrote."""
         count = c_size_t()
         self._do("flush", byref(count))
         return count.value
@@ -145,7 +146,7 @@ class Cache(Owner):
         return number.value
 
     def live(self) -> int:
-        """How many bytes of the log make the pages, which is about what a rewriting leaves. It reads nothing."""
+        """How many bytes of the log make the pages, which is about what a rewrite leaves. It reads nothing."""
         number = c_uint64()
         self._do("live", byref(number))
         return number.value
@@ -157,21 +158,21 @@ class Cache(Owner):
         return log.value, pages.value
 
     def attempt_gc(self) -> bool:
-        """Moves the page that is due, and answers whether there was one."""
+        """Moves the page that is due, and returns whether there was one."""
         moved = c_bool()
         self._do("gc", byref(moved))
         return moved.value
 
     def compact(self) -> None:
-        """Rewrites the cache into a new log, which has each page as one message, and goes on over that: a log only grows else.
+        """Rewrites the cache into a new log, which has each page as one record, and continues on that: otherwise a log only grows.
 
-        The cache is one that was opened over the new log: each page has stamp 0. A stamp that was given before is let go, since a page may
-        have it again with other pairs. No id comes twice.
+        The cache is then one that was opened over the new log: each page has stamp 0. Discard stamps from before, since a page may get the
+        same stamp again with other pairs. No id comes twice.
         """
         self._do("compact", byref(self._settings))
 
     def was_recovered(self) -> bool:
-        """Whether the log had the cache's own pages as it was opened."""
+        """Whether the log had the cache's own pages when it was opened."""
         recovered = c_bool()
         self._do("was_recovered", byref(recovered))
         return recovered.value

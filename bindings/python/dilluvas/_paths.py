@@ -1,36 +1,38 @@
 """Files for caches: how they are found, made and put in place, while others do the same.
 
-A file belongs to whoever has locked it and has seen behind the lock that the path still leads to it. One that is made has ".dilluvas-new"
-behind its name until it is whole and durable. That other name belongs to whoever has locked the file that it leads to, in the same way:
-nobody else takes it away or gives it to another file. What a process left there that was killed is taken away and never written to, since
-it may be a second name of a file with pages.
+A file belongs to the process that has locked it and has then checked that the path still leads to it. The name of a new file ends in
+".dilluvas-new" until it is whole and durable. That other name belongs in the same way to the process that has locked the file it leads to:
+no other process removes it or gives it to another file. What a killed process left there is removed and never written to, since it may be a
+second name of a file with pages.
 """
 
 import contextlib
 import errno
 import fcntl
+import functools
 import io
 import os
 import stat
 from collections.abc import Iterator
 from typing import Optional, Union
 
+from ._dropped import close_if_dropped, is_closed
 from ._errors import Refused, refusal
 from ._library import HELD, NO_ACCESS, NO_FILE, READ, WRITE
 
-# What a caller may name a file by.
+# The types of a path.
 AnyPath = Union[str, bytes, "os.PathLike[str]", "os.PathLike[bytes]"]
 
-# So often is looked anew at a name whose file another changed meanwhile.
+# How often to try again with a name whose file another process changed in between.
 MOST_TRIES = 100
 
-# What a system without hard links answers.
+# The errors of a system without hard links.
 _NO_LINKS = errno.EPERM, errno.EOPNOTSUPP, errno.ENOTSUP, errno.ENOSYS, errno.EMLINK
 
 
 @contextlib.contextmanager
 def told_as(status: int) -> Iterator[None]:
-    """An error of the system is told by a status, or as that the disk is full."""
+    """Raises an error of the system as a status, or as `DiskFull`."""
     try:
         yield
     except OSError as error:
@@ -38,19 +40,24 @@ def told_as(status: int) -> Iterator[None]:
 
 
 class Opened:
-    """A file that is open, until it is closed, or the object goes where an exception came between."""
+    """An open file, until it is closed, or the object is dropped because of an exception."""
 
     def __init__(self, path: str, mode: str) -> None:
         self._process = os.getpid()
-        # whether room is kept behind its end
+        # whether room is kept past its end
         self.keeps_room = False
-        # this owns the descriptor from the first moment on
+        # this owns the descriptor from the first moment
         self._file = io.FileIO(path, mode)
 
     @property
+    def is_own(self) -> bool:
+        """Whether this process opened the file. A child that was forked has it open too."""
+        return os.getpid() == self._process
+
+    @property
     def number(self) -> int:
-        """The descriptor, in the process that opened the file. A child that was forked would write to it unseen by its parent."""
-        if self._file.closed or os.getpid() != self._process:
+        """The descriptor, in the process that opened the file. A forked child would write to it unseen by its parent."""
+        if self._file.closed or not self.is_own:
             raise OSError(errno.EBADF, "the file is open in another process, which forked this one, or closed")
         return self._file.fileno()
 
@@ -60,58 +67,80 @@ class Opened:
     def size(self) -> int:
         return self.stat().st_size
 
+    def read(self, at: int, wanted: int, needed: int) -> bytes:
+        """The wanted number of bytes of the file, or fewer if its end or unreadable bytes come first. If fewer than the needed number can be
+        read because of an error, that OSError is raised."""
+        pieces: list[bytes] = []
+        got = 0
+        while got < wanted:
+            try:
+                read = os.pread(self.number, min(wanted - got, 1 << 30), at + got)
+            except OSError:
+                if got < needed:
+                    raise
+                break
+            if not read:
+                break
+            pieces.append(read)
+            got += len(read)
+        return pieces[0] if len(pieces) == 1 else b"".join(pieces)
+
     def give_back_room(self) -> int:
-        """Gives back the room that is kept behind the end of the file, and answers where that is."""
+        """Gives back the room that is kept past the end of the file, and returns where that end is."""
         end = self.size()
         os.ftruncate(self.number, end)
         return end
 
     def close(self) -> None:
         """Unlocks and closes the file. Closing it again does nothing."""
-        # where it stays it is of use to the next opening
+        # if it stays, the next opening uses it
         if self.keeps_room and not self._file.closed:
             with contextlib.suppress(OSError):
                 self.give_back_room()
         # A process that is just being started has it open too, so closing alone unlocks nothing. A child leaves it locked for its parent.
-        if not self._file.closed and os.getpid() == self._process:
+        if not self._file.closed and self.is_own:
             with contextlib.suppress(OSError):
                 fcntl.flock(self._file.fileno(), fcntl.LOCK_UN)
         self._file.close()
 
 
 class Folder:
-    """A folder that is open, to be synced."""
+    """A folder to be synced, which is open until it is closed, or the object is dropped because of an exception."""
 
-    # one number, if it is open
-    _numbers: list[int] = []
+    def __init__(self) -> None:
+        # one number, if it is open
+        self._numbers: list[int] = []
 
-    def __init__(self, path: str) -> None:
-        self._numbers = [os.open(path, os.O_RDONLY | os.O_DIRECTORY | os.O_CLOEXEC)]
-
-    def __del__(self) -> None:
-        self.close()
+    def open(self, path: str) -> None:
+        close_if_dropped(self, functools.partial(_close_all, self._numbers))
+        self._numbers.append(os.open(path, os.O_RDONLY | os.O_DIRECTORY | os.O_CLOEXEC))
 
     def sync(self) -> None:
-        """Makes durable which files it has."""
+        """Makes the list of its files durable."""
         try:
             os.fsync(self._numbers[0])
         except OSError as error:
-            # there are systems that sync no folder
+            # some systems sync no folder
             if error.errno != errno.EINVAL:
                 raise Refused(WRITE) from error
 
     def close(self) -> None:
-        while self._numbers:
-            os.close(self._numbers.pop())
+        _close_all(self._numbers)
+        is_closed(self)
+
+
+def _close_all(numbers: list[int]) -> None:
+    while numbers:
+        os.close(numbers.pop())
 
 
 # ---- Finding.
 
 
 def open_locked(path: str, mode: str = "r+") -> Optional[Opened]:
-    """Opens the file of a path and locks it, or answers None where it is absent."""
+    """Opens the file of a path and locks it, or returns None if it is missing."""
     for _ in range(MOST_TRIES):
-        # what is no file isn't opened: that may wait, or do something to it
+        # anything but a file isn't opened: that may block, or have an effect
         _check_is_file(path)
         try:
             opened = Opened(path, mode)
@@ -145,7 +174,7 @@ def _check_is_file(path: str) -> None:
 
 
 def _lock(opened: Opened, path: str) -> bool:
-    """Locks a file, and answers whether the path still leads to it."""
+    """Locks a file, and returns whether the path still leads to it."""
     with told_as(READ):
         found = opened.stat()
     if not stat.S_ISREG(found.st_mode):
@@ -163,7 +192,7 @@ def _lock(opened: Opened, path: str) -> bool:
 
 
 def leads_to(name: str, opened: Opened) -> bool:
-    """Whether a name is one of a file that is open. A link to the file is none."""
+    """Whether a name is a name of an open file. A link to the file is none."""
     try:
         return os.path.samestat(os.lstat(name), opened.stat())
     except OSError:
@@ -171,7 +200,7 @@ def leads_to(name: str, opened: Opened) -> bool:
 
 
 def check_is_plain(empty: Opened) -> None:
-    """Refuses an empty file that is the system's own: it has bytes although it tells that it has none, or isn't one to be synced."""
+    """Refuses an empty file that is the system's own: it has bytes although it reports none, or can't be synced."""
     try:
         os.fsync(empty.number)
     except OSError as error:
@@ -186,73 +215,86 @@ def check_is_plain(empty: Opened) -> None:
 
 
 class New:
-    """A file that is made for a path, and locked. It has the other name until it is put there: where no file is, or in place of the one that
-    is held."""
+    """A file that is made for a path, and locked. It has the other name until it is put there, where there is no file or in place of the one
+    that is held."""
 
     def __init__(self, path: str, held: Optional[Opened] = None) -> None:
         self.path, self._held = path, held
-        self._other = path + ".dilluvas-new"
-        with told_as(NO_ACCESS):
-            self._folder = Folder(os.path.dirname(path))
+        self._other, self._folder = _other_name(path), Folder()
         try:
+            with told_as(NO_ACCESS):
+                self._folder.open(os.path.dirname(path))
             self.file = _make_anew(self._other, held)
         except BaseException:
             self._folder.close()
             raise
 
     def give_owner_and_mode(self, wanted: os.stat_result) -> None:
-        """Gives the file those of another."""
+        """Gives the file the owner and the mode of another."""
         found = self.file.stat()
         if (found.st_uid, found.st_gid) != (wanted.st_uid, wanted.st_gid):
-            # who may not give a file away keeps it
+            # a process that may not change the owner leaves it
             with contextlib.suppress(PermissionError):
                 os.fchown(self.file.number, wanted.st_uid, wanted.st_gid)
         os.fchmod(self.file.number, stat.S_IMODE(wanted.st_mode))
 
     def put(self) -> bool:
-        """Puts the file where none is, and answers whether that was done: another file may have come there, or has to."""
+        """Puts the file where there is none, and returns whether that was done: another file may have appeared there, or has to."""
         try:
-            # this gives the path to no other file, as a renaming would
+            # unlike a rename, this takes the path from no other file
             os.link(self._other, self.path)
         except FileExistsError:
             return False
         except OSError as error:
             if error.errno not in _NO_LINKS:
                 raise refusal(error, NO_ACCESS) from error
-            # an empty file can be put where none is by this process alone, and this one can take its place then
+            # only this process can put an empty file where there is none, and the new file can then replace it
             _make_empty(self.path)
             return False
         self._let_other_go()
         return True
 
     def replace(self) -> bool:
-        """Puts the file in place of the one that is held, and answers whether that was done: the path may lead elsewhere by now."""
-        if self._held is None or not leads_to(self.path, self._held):
+        """Puts the file in place of the one that is held, and answers whether that was done: either name may lead elsewhere by now."""
+        if self._held is None or not leads_to(self.path, self._held) or not leads_to(self._other, self.file):
             return False
         with told_as(NO_ACCESS):
             os.rename(self._other, self.path)
         return True
 
     def sync_folder(self) -> None:
-        """Makes the file's place durable."""
+        """Makes the file's name durable."""
         self._folder.sync()
 
     def close(self) -> None:
-        """Lets the other name go, if the file has it, and leaves the file open."""
+        """Removes the other name, if the file has it, and leaves the file open."""
         try:
             self._let_other_go()
         finally:
             self._folder.close()
 
-    # Once the file has its own name the other one may be another process's. As long as this file has it, it's locked, and nobody takes it.
+    # Once the file has its own name the other one may belong to another process. While this file has it, it's locked, and nobody takes it.
     def _let_other_go(self) -> None:
         if leads_to(self._other, self.file):
             with contextlib.suppress(OSError):
                 os.unlink(self._other)
 
 
+def _other_name(path: str) -> str:
+    return path + ".dilluvas-new"
+
+
+def take_left_away(path: str, held: Opened) -> None:
+    """Removes the file that a process left by the other name when it was killed. It stays where another process has locked it, where it is no
+    file, or where the system refuses."""
+    other = _other_name(path)
+    with contextlib.suppress(Refused, OSError):
+        if stat.S_ISREG(os.lstat(other).st_mode):
+            _take_away(other, held)
+
+
 def place_of_new(path: str, empty: Optional[Opened]) -> str:
-    """Where a file is made, from the root on: where a link leads that has an empty file, and nowhere for one that leads to none."""
+    """The absolute path at which a file is made: the target of a link that has an empty file, and none for a link that leads to no file."""
     with told_as(NO_ACCESS):
         if os.path.islink(path) and (empty or os.path.exists(path)):
             path = os.path.realpath(path)
@@ -263,7 +305,7 @@ def place_of_new(path: str, empty: Optional[Opened]) -> str:
 
 
 def _make_anew(other: str, held: Optional[Opened]) -> Opened:
-    """Makes a file by the other name, and locks it."""
+    """Makes a file under the other name, and locks it."""
     for _ in range(MOST_TRIES):
         _take_away(other, held)
         try:
@@ -275,13 +317,13 @@ def _make_anew(other: str, held: Optional[Opened]) -> Opened:
         found = made.stat()
         if found.st_size == 0 and found.st_nlink < 2:
             return made
-        # another took it for one that was left, before it was locked, and was killed once it had made it whole
+        # before it was locked another process took it for a leftover, and was killed once it had made it whole
         made.close()
     raise Refused(NO_ACCESS)
 
 
 def _take_away(other: str, held: Optional[Opened]) -> None:
-    """Takes away what was left by the other name, once it is locked."""
+    """Removes what was left under the other name, once it is locked."""
     with told_as(NO_ACCESS):
         if held is not None and leads_to(other, held):
             os.unlink(other)
@@ -289,7 +331,7 @@ def _take_away(other: str, held: Optional[Opened]) -> None:
         left = open_locked(other)
         if left is not None:
             with contextlib.closing(left):
-                # a link to a file isn't one that was left
+                # a link to a file isn't a leftover
                 if not leads_to(other, left):
                     raise Refused(NO_ACCESS)
                 os.unlink(other)
@@ -305,13 +347,13 @@ def _make_empty(path: str) -> None:
 
 
 def sync_name(path: str) -> None:
-    """Makes the name of a file durable: whoever gave it may have ended before it was."""
-    try:
-        folder = Folder(os.path.dirname(os.path.realpath(path)))
-    except PermissionError:
-        # one that may not be read is synced by nobody
-        return
-    except OSError as error:
-        raise Refused(WRITE) from error
-    with contextlib.closing(folder):
+    """Makes the name of a file durable: the process that gave it may have ended before that."""
+    with contextlib.closing(Folder()) as folder:
+        try:
+            folder.open(os.path.dirname(os.path.realpath(path)))
+        except PermissionError:
+            # a folder that may not be read can't be synced
+            return
+        except OSError as error:
+            raise Refused(WRITE) from error
         folder.sync()

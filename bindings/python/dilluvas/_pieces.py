@@ -1,4 +1,4 @@
-"""Pairs of a map in their order, a piece of it at a time: what lies between two bounds, whatever is changed meanwhile."""
+"""Pairs of a map between two bounds, in order, a piece of the map at a time, whatever is changed in between."""
 
 import ctypes
 from collections.abc import Iterator
@@ -21,23 +21,23 @@ class Bound(NamedTuple):
 
     @classmethod
     def at(cls, key: Optional[BytesLike], is_included: bool) -> "Bound":
-        """One at a key, or none where that is None."""
+        """A bound at a key, or no bound if that is None."""
         if key is None:
             return cls(UNBOUNDED, b"")
         return cls(INCLUDED if is_included else EXCLUDED, bytes_of(key, "a bound"))
 
     def told(self) -> tuple[int, bytes, int]:
-        """What a call is given of it."""
+        """The arguments of a call for it."""
         return self.kind, self.key, len(self.key)
 
     def is_above(self, key: bytes) -> bool:
-        """Whether a key lies below this bound of a range that begins here."""
+        """Whether a key is before a range that begins at this bound."""
         return self.kind != UNBOUNDED and (key < self.key or self.kind == EXCLUDED and key == self.key)
 
 
 @dataclass(frozen=True)
 class Range:
-    """The pairs of a map of this name from one bound to another one."""
+    """The pairs of the map of this name between two bounds."""
 
     cache: Cache
     name: bytes
@@ -45,12 +45,12 @@ class Range:
     stop: Bound
 
     def pairs(self) -> Iterator[Pair]:
-        """The pairs, those that one leaf has at a time. No key comes twice or behind a greater one, whatever is changed meanwhile."""
+        """The pairs, those of one leaf at a time. No key comes twice or after a greater one, whatever is changed in between."""
         for _, data in self._pieces("map_range"):
             yield from decoded(data)
 
     def reversed_pairs(self) -> Iterator[Pair]:
-        """The same from the greatest key on: one pair at a time, as it is then."""
+        """The same in reverse order: one pair at a time, as it then is."""
         kind, key = self.stop
         side = {INCLUDED: UP_TO, EXCLUDED: BELOW, UNBOUNDED: LAST}[kind]
         while True:
@@ -64,7 +64,7 @@ class Range:
         """How many pairs there are."""
         return sum(count for count, _ in self._pieces("map_count"))
 
-    # Of each piece how many pairs it has, and these. Where one ends the next one begins.
+    # The pieces, each as the number of its pairs and their bytes. Each begins where the previous one ends.
     def _pieces(self, call: str) -> Iterator[tuple[int, bytes]]:
         room, piece, start = ctypes.create_string_buffer(4096), Piece(), self.start
         while True:
@@ -83,7 +83,7 @@ class Range:
 
 
 def nearest(cache: Cache, name: bytes, side: int, key: bytes) -> Optional[Pair]:
-    """The nearest pair to a key on a side, or the one at an end of the map."""
+    """The nearest pair on a side of a key, or the pair at an end of the map."""
     status, data = written(lambda *room: cache._ask("map_next", name, len(name), side, key, len(key), *room))
     if status == NONE:
         return None

@@ -9,11 +9,16 @@ from ._pages import Cache
 
 
 class CompactAt(NamedTuple):
-    """When `Db.flush` rewrites the file, as `Db.compact` does: where the file has `times` as many bytes as its pages take, and has `least`
-    bytes or more, and not more than `most`.
+    """When `Db.flush` rewrites the file: where the file has `times` as many bytes as its pages take, and has `least` bytes or more, and not
+    more than `most`.
 
-    What was pending is durable before, and a rewriting that is refused leaves the flush as it is. It is tried again once the file has grown
-    by half. How much the pages take is looked at each time that the file has grown by an eighth.
+    It does so in steps, one at each flush. They copy records to a new file, FILE.dilluvas-new, which takes the place of the file as that of
+    `Db.compact` does once it has all of them. Neither file is in memory: 16 bytes are for each page, and for each message that a page has
+    beside its first. Each step also reads what it copied into the cache of the new file, which takes the memory that an opened file does,
+    and the last one syncs the file. Closing the db ends a rewriting, and so do `Db.compact` and a change that the disk has no room for else.
+
+    What was pending is durable before, and a rewriting that is refused leaves the flush as it is: `Db.rewriting_failure` says why. It is tried
+    again once the file has grown by half. How much the pages take is looked at each time that the file has grown by an eighth.
     """
 
     times: int = 4
@@ -22,8 +27,12 @@ class CompactAt(NamedTuple):
     least: int = 16 << 20
     """A file of fewer bytes stays as it is."""
 
-    most: int = 1 << 30
-    """A file of more bytes stays as it is: a rewriting may take three times as much memory."""
+    most: int = (1 << 64) - 1
+    """A file of more bytes stays as it is."""
+
+    step: int = 4 << 20
+    """About how many bytes one flush reads and writes for it, and four more for each byte that the file grew by since the last step. 0: one
+    flush does all of it, as `Db.compact` does, which may take three times as much memory as the file has bytes."""
 
 
 class Space:
@@ -37,26 +46,40 @@ class Space:
         self._next_look = 0
 
     def give_back(self, cache: Cache) -> None:
-        """Rewrites the file of a cache, of which nothing is pending, where it is time to. Whatever is refused, the cache goes on, unless it
-        says so itself at its next call."""
-        if self.compact_at is None or not isinstance(cache, FileCache):
+        """Rewrites the file of a cache that was flushed, or takes a step of that, where it is time to. Whatever is refused, the cache goes on,
+        unless it says so itself at its next call."""
+        if not isinstance(cache, FileCache):
             return
         try:
-            self._look(self.compact_at, cache)
+            self._rewrite(self.compact_at, cache)
         except (Refused, OSError, MemoryError):
-            # the next call tells it
+            # the cache keeps why a step failed, and its next call tells all else
             pass
 
-    def _look(self, compact_at: CompactAt, cache: Cache) -> None:
-        times, least, most = compact_at
-        size = cache.size()
-        if size < self._next_look or not least <= size <= most:
+    def _rewrite(self, compact_at: Optional[CompactAt], cache: FileCache) -> None:
+        if cache.is_rewriting and (compact_at is None or compact_at.step == 0):
+            cache.end_rewriting()
+        if compact_at is None:
             return
-        if size < cache.live() * max(times, 2):
-            self._next_look = size + size // 8
-            return
-        # for one that is refused
+        size = cache.size()
+        live: Optional[int] = None
+        if not cache.is_rewriting:
+            live = self._live_if_time(compact_at, cache, size)
+            if live is None:
+                return
+        # for one that fails, or is ended before the next flush
         self._next_look = size + size // 2
-        cache.compact()
+        if not cache.take_step(compact_at.step, live):
+            return
         size = cache.size()
         self._next_look = size + size // 2
+
+    def _live_if_time(self, compact_at: CompactAt, cache: FileCache, size: int) -> Optional[int]:
+        """How many bytes the pages take, where a file of so many bytes is to be rewritten."""
+        if size < self._next_look or not compact_at.least <= size <= compact_at.most:
+            return None
+        live = cache.live()
+        if size >= live * max(compact_at.times, 2):
+            return live
+        self._next_look = size + size // 8
+        return None

@@ -1,8 +1,8 @@
-//! What calls answer.
+//! What calls return.
 
-/// A page's number, and a stamp that it had.
+/// A page number, and a stamp that the page had.
 ///
-/// A change names the token that it expects, and is refused where the page has another one.
+/// A change names the token that it expects, and is not made if the page has another one.
 #[derive(Clone, Copy, Debug, PartialEq, Eq, Hash)]
 pub struct Token {
     /// The page.
@@ -11,7 +11,7 @@ pub struct Token {
     pub stamp: u64,
 }
 
-/// What a change of a page came to.
+/// The result of changing a page.
 ///
 /// ```
 /// use dilluvas::{Cache, Settings, Swap};
@@ -34,16 +34,16 @@ pub struct Token {
 #[derive(Clone, Copy, Debug, PartialEq, Eq)]
 #[must_use = "the page may have another token, and then nothing changed"]
 pub enum Swap {
-    /// The page was changed, and this is its token now.
+    /// The page was changed, and this is its new token.
     Done(Token),
-    /// The token was stale, nothing changed, and this is the present one.
+    /// The token was stale: nothing changed, and this is the current token.
     Stale(Token),
     /// There is no such page.
     Gone,
 }
 
 impl Swap {
-    /// The token that the page has now, if it was changed.
+    /// Returns the new token, if the page was changed.
     #[must_use = "none says that nothing changed"]
     pub fn done(self) -> Option<Token> {
         match self {
@@ -53,11 +53,11 @@ impl Swap {
     }
 }
 
-/// How much a cache takes.
+/// How much space a cache takes.
 #[derive(Clone, Copy, Debug, PartialEq, Eq)]
 pub struct Amplification {
-    /// The bytes of the log.
+    /// The size of the log, in bytes.
     pub log: u64,
-    /// What the pages would take by their contents, a segment among it; `u64::MAX` stands for that and for more.
+    /// How many bytes the contents of the pages would take, including one segment; `u64::MAX` means that many or more.
     pub pages: u64,
 }

@@ -5,10 +5,10 @@ use crate::error::{Error, done};
 use crate::sys;
 use std::ops::{Deref, DerefMut};
 
-/// A batch that is open, which lends the cache. What [`Cache::pin`] answers.
+/// An open batch, which borrows the cache: what [`Cache::pin`] returns.
 ///
-/// It is sealed by [`seal`](Batch::seal), and cancelled where it is dropped before: a crash may leave a part of it then, and nothing is
-/// undone. One that is neither, as by [`std::mem::forget`], stays open.
+/// [`seal`](Batch::seal) seals it. If it is dropped before that, it is cancelled: a crash may then leave a part of it, and nothing is undone.
+/// If it is neither sealed nor dropped, as with [`std::mem::forget`], it stays open.
 #[derive(Debug)]
 #[must_use = "a batch that is dropped is cancelled"]
 pub struct Batch<'a> {
@@ -16,7 +16,7 @@ pub struct Batch<'a> {
 }
 
 impl Cache {
-    /// Opens a batch: once it is sealed, a crash leaves all of it or nothing, and all once a flush has answered.
+    /// Opens a batch. Once it is sealed, a crash leaves all of it or nothing, and once a flush has returned `Ok`, all of it.
     ///
     /// ```
     /// use dilluvas::{Cache, Error, NO_PAIRS, Settings};
@@ -52,12 +52,12 @@ impl Cache {
 }
 
 impl Batch<'_> {
-    /// Closes the batch: a crash leaves all of it or nothing, and all once a flush has answered.
+    /// Closes the batch. From then on a crash leaves all of it or nothing, and once a flush has returned `Ok`, all of it.
     ///
     /// # Errors
     ///
-    /// [`Write`](Error::Write); [`NoBatch`](Error::NoBatch) where another cache was put in the place of the one that it was opened in. The
-    /// batch is closed in each case.
+    /// [`Write`](Error::Write); [`NoBatch`](Error::NoBatch) if another cache has replaced the one in which the batch was opened. The batch is
+    /// closed in each case.
     pub fn seal(self) -> Result<(), Error> {
         let sealed = self.cache.call(sys::Handle::seal);
         std::mem::forget(self);

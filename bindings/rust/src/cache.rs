@@ -4,6 +4,7 @@ mod log;
 mod names;
 mod pages;
 mod rewriting;
+mod steps;
 
 use crate::device::{Attached, Device};
 use crate::error::{Error, done};
@@ -12,6 +13,7 @@ use crate::settings::{FileSettings, Settings};
 use crate::sys;
 use std::fmt;
 use std::path::Path;
+use steps::Steps;
 
 /// An open cache. It is closed where it is dropped, and nothing is flushed then.
 ///
@@ -39,6 +41,10 @@ pub struct Cache {
     place: Place,
     // How many bytes the longest change of this opening was given.
     longest: usize,
+    // The rewriting that was begun, which is ended first.
+    steps: Option<Box<Steps>>,
+    // Why the last one was given up. The cache over a file that took the place of another has none.
+    failure: Option<Error>,
 }
 
 // A change may write pages of several pairs, which a leaf has some tens of, beside what it is given.
@@ -78,6 +84,8 @@ impl Cache {
             attached: None,
             place: Place::Memory(*settings),
             longest: 0,
+            steps: None,
+            failure: None,
         })
     }
 
@@ -208,21 +216,32 @@ impl Cache {
         device: impl Device + 'static,
         settings: &FileSettings,
     ) -> Result<Cache, Error> {
-        let attached = Attached::new(Box::new(device))?;
-        let len = attached.end();
-        let mut cache = Cache {
-            handle: sys::Handle::CLOSED,
-            attached: Some(attached),
-            place: Place::Device(*settings),
-            longest: 0,
-        };
+        let mut cache = Cache::closed_on(Box::new(device), settings)?;
+        let len = cache.end();
         cache.call(|handle| handle.open_file(settings, len))?;
         Ok(cache)
     }
 
-    // Whether it lies over a file that it can rewrite.
+    // One that isn't open yet, on a device.
+    fn closed_on(device: Box<dyn Device>, settings: &FileSettings) -> Result<Cache, Error> {
+        Ok(Cache {
+            handle: sys::Handle::CLOSED,
+            attached: Some(Attached::new(device)?),
+            place: Place::Device(*settings),
+            longest: 0,
+            steps: None,
+            failure: None,
+        })
+    }
+
+    // How many bytes its device has.
+    fn end(&self) -> u64 {
+        self.attached.as_ref().map_or(0, Attached::end)
+    }
+
+    // Whether it lies over a file that it can rewrite, and not over that of a parent process.
     pub(crate) fn has_file(&self) -> bool {
-        matches!(self.place, Place::File(..))
+        matches!(&self.place, Place::File(_, place) if place.is_ours())
     }
 
     // Makes a call that changes pages, and is given so many bytes. There is room then for what it writes and for all that is pending, so that
@@ -258,7 +277,15 @@ impl Cache {
         }
         let log = size.saturating_add(settings.segment_size as u64);
         let room = wanted(log).saturating_add(LEAST_ROOM);
-        attached.keep_room(log.saturating_add(room))
+        let end = log.saturating_add(room);
+        match attached.keep_room(end) {
+            // what the rewriting wrote takes room too
+            Err(full @ Error::DiskFull(_)) if self.steps.take().is_some() => {
+                self.failure = Some(full);
+                attached.keep_room(end)
+            }
+            kept => kept,
+        }
     }
 
     // Makes a call until it is answered: over a device what it wants of that is done between. What is no error is answered by its status.

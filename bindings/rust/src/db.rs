@@ -1,4 +1,4 @@
-//! Ordered maps by names, in a file or in memory, for many threads.
+//! Named ordered maps, in a file or in memory, for many threads.
 
 mod batch;
 mod opening;
@@ -15,19 +15,20 @@ use shared::{Shared, Store};
 use std::fmt;
 use std::sync::Arc;
 
-/// Ordered maps from bytes to bytes, by names, in a file or in memory.
+/// Named ordered maps from bytes to bytes, in a file or in memory.
 ///
-/// A clone is of the same maps, and threads share it: each call takes its lock for itself, and [`batch`](Db::batch) for many calls. The file
-/// is closed, and its lock let go, where the last clone, [`Map`] and [`Iter`](crate::Iter) of it are dropped.
+/// A clone refers to the same maps, and threads can share them: each call takes the lock for itself, and [`batch`](Db::batch) takes it for many
+/// calls. The file is closed and unlocked when the last clone, [`Map`] and [`Iter`](crate::Iter) of it are dropped.
 ///
-/// What [`flush`](Db::flush) has answered `Ok` for outlives the process and a crash. The file is flushed too where the last of these is
-/// dropped, unless a thread panics there; an error of that is told to nobody, so **a program that has to know flushes itself**. Where the
-/// process ends otherwise, a first part of what came behind the last flush is there, or nothing of it.
+/// Changes for which [`flush`](Db::flush) has returned `Ok` survive the end of the process and a crash. The file is also flushed when the last
+/// clone, `Map` or `Iter` is dropped, unless the thread is panicking, but an error of that flush is not reported, so **call `flush` if you need
+/// to know**. If the process ends in any other way, a prefix of the changes after the last flush is there, or none of them.
 ///
-/// The file grows by each change, until it is rewritten: by a [`flush`](Db::flush) that finds much of it needless, as [`CompactAt`] says, or
+/// The file grows with each change until it is rewritten: by a [`flush`](Db::flush) that finds much of it obsolete, as [`CompactAt`] says, or
 /// by [`compact`](Db::compact).
 ///
-/// A child that was forked has no part in the file of its parent, as [`Cache::open`] says, and dropping a `Db` there does nothing to it.
+/// A forked child neither reads nor writes its parent's file, as [`Cache::open`](crate::Cache::open) says, and dropping a `Db` in the child
+/// does nothing to the file.
 ///
 /// ```
 /// use dilluvas::{Db, Error};
@@ -48,25 +49,27 @@ use std::sync::Arc;
 ///
 /// # Errors
 ///
-/// A call that answers an error has changed nothing, unless it says otherwise. There are two of which this isn't all:
+/// A call that returns an error has changed nothing, unless its documentation says otherwise. For two kinds of errors there is more to say:
 ///
-/// - [`Error::Write`]: a write or a sync failed, in this call or in an earlier one. Every later call answers so too, until the file is opened
-///   again: then all that was flushed is there, and of what came behind it a part may be.
-/// - [`Error::Read`] and [`Error::OutOfMemory`]: the call may be made again.
+/// - [`Error::Write`]: a write or a sync failed, in this call or in an earlier one. Every later call fails with it too, until the file is
+///   reopened: then everything that was flushed is there, and a part of what came after it may be.
+/// - [`Error::Read`] and [`Error::OutOfMemory`]: the call may be retried.
 ///
-/// Over a file each change answers [`Error::DiskFull`] where the disk has no room for it: it isn't begun, all that was changed before can be
-/// read and flushed, and changes go on once there is room. For that room is kept behind the end of the file, for a segment and for what a
-/// change may write, and goes back where the file is closed. Where the file system keeps none (`fallocate`), or a page has longer pairs than
-/// all that this opening was given, a disk that is full is a write that fails.
+/// Over a file each change fails with [`Error::DiskFull`] if the disk has no room for it. The change isn't begun, all earlier changes can be
+/// read and flushed, and changes can be made again once there is room. To that end, room for a segment and for what a change may write is
+/// reserved after the end of the file, and is released when the file is closed. If the file system can't reserve room (`fallocate`), or a page
+/// has longer pairs than any that this opening was given, a full disk makes a write fail.
 ///
-/// Any call answers [`Error::Reentrant`] where this thread is in another one of the same `Db`, as in the closure of [`batch`](Db::batch).
+/// Any call fails with [`Error::Reentrant`] if this thread is inside another call of the same `Db`, such as in the closure of
+/// [`batch`](Db::batch).
 #[derive(Clone)]
 pub struct Db {
     shared: Arc<Shared>,
 }
 
 impl Db {
-    /// The map of a name, which is any bytes. It is empty, and isn't made, until something is put into it.
+    /// Returns the map with this name, which can be any bytes. A map that does not exist yet is empty, and is created when a value is set in
+    /// it.
     ///
     /// ```
     /// use dilluvas::{Db, Error};
@@ -82,7 +85,7 @@ impl Db {
         Map::new(self.clone(), name.as_ref())
     }
 
-    /// The names of the maps, in the order of their bytes. A map whose pairs were all taken out is there until it is dropped.
+    /// Returns the names of the maps, in byte order. A map whose pairs were all removed is there until it is dropped.
     ///
     /// ```
     /// use dilluvas::{Db, Error};
@@ -102,10 +105,10 @@ impl Db {
         self.with(|calls| calls.names())
     }
 
-    /// Takes the map of a name away, with all that it has, and answers whether there was one. A [`Map`] of that name is empty then, and makes
-    /// another one where something is put into it.
+    /// Removes the map with this name, with all its pairs, and returns whether there was one. A [`Map`] with that name is then empty, and
+    /// setting a value in it creates a new map.
     ///
-    /// It reads all pages of the map before it changes anything, and frees them behind: a crash leaves the map as it was, or none.
+    /// It reads all pages of the map before it changes anything, and frees them afterwards: a crash leaves the map as it was, or no map.
     ///
     /// ```
     /// use dilluvas::{Db, Error};
@@ -126,7 +129,7 @@ impl Db {
         self.with(|calls| calls.drop_map(name.as_ref()))
     }
 
-    /// A number that was never given before, by any opening of the file. It ascends, and an opening skips some.
+    /// Returns a number that was never returned before, by any opening of the file. Numbers ascend, and an opening skips some.
     ///
     /// ```
     /// use dilluvas::{Db, Error};
@@ -147,8 +150,8 @@ impl Db {
         self.shared.lock()?.cache.generate_id()
     }
 
-    /// Makes all changes durable, which waits for the disk, and answers how many bytes that wrote. Where it finds much of the file needless
-    /// it rewrites the file then, as [`CompactAt`] says.
+    /// Makes all changes durable, which blocks on the disk, and returns how many bytes it wrote. If much of the file is obsolete, it then
+    /// rewrites the file, as [`CompactAt`] says.
     ///
     /// ```
     /// use dilluvas::{Db, Error};
@@ -171,8 +174,8 @@ impl Db {
         Ok(written)
     }
 
-    /// Rewrites the file into a new one, without what later changes made needless, which takes its place and is durable then. In memory the
-    /// log is rewritten. [`Cache::compact`] says more.
+    /// Rewrites the file into a new one, without what later changes made obsolete. The new file replaces the old one, and is durable then. In
+    /// memory the log is rewritten. See [`Cache::compact`](crate::Cache::compact) for more.
     ///
     /// ```
     /// use dilluvas::{Db, Error};
@@ -190,13 +193,14 @@ impl Db {
     ///
     /// # Errors
     ///
-    /// As of [`Cache::compact`]. [`NoFile`](Error::NoFile) on a device, of which [`compact_to`](Db::compact_to) makes a new one.
+    /// As for [`Cache::compact`](crate::Cache::compact). [`NoFile`](Error::NoFile) over a device, for which there is
+    /// [`compact_to`](Db::compact_to).
     pub fn compact(&self) -> Result<(), Error> {
         self.shared.lock()?.cache.compact()
     }
 
-    /// Rewrites the maps onto another device, of which there are no bytes, and goes on over that. The one before is dropped. Maps in memory
-    /// lie on the device then.
+    /// Rewrites the maps onto another device, which must be empty, and continues on that device. The old one is dropped. Maps in memory are
+    /// then on the device.
     ///
     /// ```
     /// use dilluvas::{Db, Device, Error};
@@ -208,12 +212,12 @@ impl Db {
     ///
     /// # Errors
     ///
-    /// As of [`Cache::compact_to`].
+    /// As for [`Cache::compact_to`](crate::Cache::compact_to).
     pub fn compact_to(&self, device: impl Device + 'static) -> Result<(), Error> {
         self.shared.lock()?.cache.compact_to(device)
     }
 
-    /// How many bytes the file has, with what is still to be written; or the log in memory.
+    /// Returns the size of the file, in bytes, including what is still to be written; in memory, the size of the log.
     ///
     /// ```
     /// use dilluvas::{Db, Error};

@@ -61,7 +61,7 @@ impl<D: Device + ?Sized> Device for Box<D> {
 
 // The bytes of the buffer, and how many are read at least: what a page's later messages need often stands near.
 const ROOM: usize = 65536;
-const LEAST_READ: u64 = 4096;
+pub(crate) const LEAST_READ: u64 = 4096;
 // The bytes of a piece where much is read.
 const MUCH: u64 = 4 << 20;
 // Room is kept in steps of an eighth of the device, within these.
@@ -97,6 +97,12 @@ impl Attached {
     /// How many bytes the device has.
     pub(crate) fn end(&self) -> u64 {
         self.end
+    }
+
+    /// Takes the device for cut off at a place.
+    pub(crate) fn shorten(&mut self, end: u64) {
+        self.end = end;
+        self.room_end = end;
     }
 
     /// Takes the room behind the end for given back.
@@ -235,8 +241,13 @@ impl Attached {
         handed_in
     }
 
-    // Reads the bytes between two places and hands them in, piece by piece.
-    fn hand_in(&mut self, handle: &mut sys::Handle, mut at: u64, end: u64) -> Result<(), Error> {
+    /// Reads the bytes between two places and hands them in, piece by piece.
+    pub(crate) fn hand_in(
+        &mut self,
+        handle: &mut sys::Handle,
+        mut at: u64,
+        end: u64,
+    ) -> Result<(), Error> {
         while at < end {
             let len = (end - at).min(self.buffer.len() as u64) as usize;
             let piece = &mut self.buffer[..len];

@@ -6,11 +6,11 @@ use std::io;
 use std::mem;
 use std::sync::Arc;
 
-/// Why a call was refused. It has changed nothing, unless the call says otherwise, and but for [`Write`](Error::Write).
+/// Why a call failed. The call has changed nothing, unless its documentation says otherwise or the error is [`Write`](Error::Write).
 ///
-/// [`Read`](Error::Read), [`Write`](Error::Write), [`NoAccess`](Error::NoAccess) and [`DiskFull`](Error::DiskFull) have the error of the
-/// system that caused them, which is their [`source`](std::error::Error::source) too. Two errors are equal where they are refusals of one
-/// kind: what caused them isn't compared.
+/// [`Read`](Error::Read), [`Write`](Error::Write), [`NoAccess`](Error::NoAccess) and [`DiskFull`](Error::DiskFull) contain the system's error
+/// that caused them, which is also their [`source`](std::error::Error::source). Two errors are equal if they are of the same kind: their causes
+/// are not compared.
 ///
 /// ```
 /// use dilluvas::{Cache, Error, NO_PAIRS, Settings};
@@ -29,7 +29,7 @@ use std::sync::Arc;
 /// # }
 /// ```
 ///
-/// A program may look at what the system said:
+/// A program can look at the system's error:
 ///
 /// ```
 /// use dilluvas::{Db, Error};
@@ -43,67 +43,72 @@ use std::sync::Arc;
 #[derive(Clone, Debug)]
 #[non_exhaustive]
 pub enum Error {
-    /// The pairs don't ascend, or a leaf can't hold them.
+    /// An argument is invalid: the keys of the pairs are not in ascending order, or a leaf cannot hold the pairs. [`compact_to`] returns this
+    /// for a device that already has bytes.
+    ///
+    /// [`compact_to`]: crate::Cache::compact_to
     Arguments,
     /// No batch is open.
     NoBatch,
-    /// The page is an index, which has no values.
+    /// The page is an index, whose pairs have no values.
     Index,
-    /// The call isn't made over a file.
+    /// The call is not available over a file or another device.
     NotOverFile,
-    /// The key has 2^31 bytes or more.
+    /// The key is longer than 2^31 - 1 bytes.
     KeyTooLong,
-    /// The value has 2^31 bytes or more.
+    /// The value is longer than 2^31 - 1 bytes.
     ValueTooLong,
-    /// An allocation failed. The call may be made again.
+    /// An allocation failed. The call may be retried.
     OutOfMemory,
-    /// A read failed, or a child that was forked would read its parent's file. The call may be made again.
+    /// A read failed. The call may be retried. A forked child gets this error where a call would read its parent's file.
     Read(Arc<io::Error>),
-    /// A write or a sync failed, in this call or in an earlier one. Every later call answers so, until the device is opened again: then all
-    /// that was flushed is there, and of what came behind it a part may be. A file fails that would get longer than the process may make one
-    /// (`RLIMIT_FSIZE`), before a signal tells it; and one that a child that was forked would write or sync.
+    /// A write or a sync failed, in this call or in an earlier one. Every later call fails with this error too, until the file or device is
+    /// reopened. Everything that was flushed is there then, and some of the later changes may be. A write beyond the process's limit on the
+    /// length of files (`RLIMIT_FSIZE`) fails with this error and raises no signal. So does a write or a sync of its parent's file in a forked
+    /// child.
     Write(Arc<io::Error>),
-    /// The messages of the page, or the bytes of the file, aren't what a cache wrote; or the pages of a map aren't what a map has.
+    /// The file or a page is damaged, or was not written by Dilluvas; or the pages are not those of a map.
     Corruption,
-    /// It is a folder, or another thing that is no file: so is one of the system's own, as those of `/proc`, which says that it has no bytes
-    /// and doesn't keep any.
+    /// The path names a directory, or something else that is not a regular file; or a file of the system, such as those in `/proc`, which
+    /// stores nothing. [`compact`](crate::Cache::compact) returns this for a cache on another device.
     NoFile,
-    /// The file may not be read and written, or can't be made.
+    /// The file cannot be opened for reading and writing, or cannot be created.
     NoAccess(Arc<io::Error>),
-    /// Another process has the file open, or this one has. A child that was forked is told so too, where a thread of its parent was in a call
-    /// of the [`Db`](crate::Db) then: that call never ends in the child.
+    /// The file is open in another process, or already open in this one. A forked child gets this error too if a thread of its parent was
+    /// inside a call of the [`Db`](crate::Db) at the fork, since that call never ends in the child.
     Held,
-    /// The page is the cache's own: 0, 1 or 2^64 - 667.
+    /// The page is reserved for the cache: 0, 1 or 2^64 - 667.
     ReservedId,
     /// The capacity of the cache is below 256.
     CapacityTooSmall,
-    /// The interval of ids is 0.
+    /// The interval of ids is 0, and must be at least 1.
     IntervalZero,
-    /// The size of a segment is 0.
+    /// The size of a segment is 0, and must be at least 1.
     SegmentZero,
-    /// No page is free, and there are 2^37 of them.
+    /// All 2^37 pages are in use.
     PagesUsedUp,
-    /// No id is left below 2^64.
+    /// All ids below 2^64 are used up.
     IdsUsedUp,
-    /// The stamp of the page is the greatest.
+    /// The stamp of the page is 2^64 - 1, so the page cannot change any more.
     StampUsedUp,
-    /// A batch is open: it takes no flush, no second pin, no id that needs a new counter, and no rewriting.
+    /// A batch is open: seal or cancel it first. Until then a flush, a second pin, an id that needs a new counter, and a rewrite fail with this
+    /// error.
     BatchOpen,
-    /// There are 2^24 other names.
+    /// There are already 2^24 other names.
     TooManyNames,
-    /// The name has 2^31 bytes or more.
+    /// The name is longer than 2^31 - 1 bytes.
     NameTooLong,
-    /// The log has no room for the message.
+    /// The log is full: it has no room for the change.
     LogFull,
-    /// The disk has no room for the change, which was not begun: all that was changed before is there and can be flushed and read, and changes
-    /// go on once there is room. A rewriting answers so too, where the new file has no room.
+    /// The disk has no room for the change, and nothing was changed. All earlier changes can still be read and flushed, and new ones can be made
+    /// once there is room. A rewrite fails with this error if the disk has no room for the new file.
     DiskFull(Arc<io::Error>),
-    /// The node doesn't accept the link: it is an index, the key is out of its range, or the leaf is full.
+    /// The page does not accept the change: it is an index, the key is out of its range, or the leaf is full.
     LinkRefused,
-    /// This thread is in another call of the same [`Db`](crate::Db), for whose end this one would wait for ever. Within
-    /// [`Db::batch`](crate::Db::batch) the maps of the batch are used.
+    /// This thread is already inside another call of the same [`Db`](crate::Db), and would wait for itself forever. In the closure of
+    /// [`Db::batch`](crate::Db::batch), use the maps of the batch.
     Reentrant,
-    /// A status that an open cache doesn't answer, by its number.
+    /// A status that no other variant stands for, by its number. An open cache returns none.
     Unknown(u32),
 }
 
@@ -134,7 +139,7 @@ static STATUSES: [(u32, Error); 22] = [
 ];
 
 impl Error {
-    /// That of a status. The library reads and writes nothing itself, so it has no cause of what failed there.
+    /// The error of a status. The library reads and writes nothing itself, so it has no cause of a failed read or write.
     pub(crate) fn of(status: u32) -> Error {
         let untold = || Arc::new(io::Error::other("the library doesn't say why"));
         match status {
@@ -144,6 +149,16 @@ impl Error {
                 let row = STATUSES.iter().find(|(number, _)| *number == status);
                 row.map_or(Error::Unknown(status), |(_, error)| error.clone())
             }
+        }
+    }
+
+    /// The error of a status of a call that reads and writes by itself, where the system said why.
+    pub(crate) fn caused(status: u32, cause: io::Error) -> Error {
+        match status {
+            sys::READ => Error::read(cause),
+            sys::WRITE => Error::write(cause),
+            sys::DISK_FULL => Error::disk_full(cause),
+            status => Error::of(status),
         }
     }
 
@@ -159,7 +174,7 @@ impl Error {
         Error::DiskFull(Arc::new(cause))
     }
 
-    /// That the disk has no room, where it is why a write failed that nothing rests on.
+    /// [`DiskFull`](Error::DiskFull) for a failed write on which nothing depends, if the disk had no room for it; otherwise this error.
     pub(crate) fn or_disk_full(self) -> Error {
         match self {
             Error::Write(cause) if is_of_room(&cause) => Error::DiskFull(cause),
@@ -171,7 +186,7 @@ impl Error {
         Error::NoAccess(Arc::new(cause))
     }
 
-    /// The number of the status that tells it, as `dilluvas.h` has it. [`Reentrant`](Error::Reentrant) has none there, and answers 0.
+    /// Returns its status number, as in `dilluvas.h`. [`Reentrant`](Error::Reentrant) has none there, and returns 0.
     #[must_use]
     pub fn status(&self) -> u32 {
         match self {
@@ -198,7 +213,7 @@ impl Error {
     }
 }
 
-/// Whether the system refused something for want of room.
+/// Whether the system refused something for lack of room.
 pub(crate) fn is_of_room(error: &io::Error) -> bool {
     matches!(
         error.kind(),
@@ -206,7 +221,7 @@ pub(crate) fn is_of_room(error: &io::Error) -> bool {
     )
 }
 
-/// That a call was done, which answered so.
+/// `Ok` if the status of a call says that it was done, otherwise its error.
 pub(crate) fn done(status: u32) -> Result<(), Error> {
     match status {
         sys::OK => Ok(()),
@@ -229,7 +244,7 @@ impl fmt::Display for Error {
     fn fmt(&self, f: &mut fmt::Formatter<'_>) -> fmt::Result {
         if *self == Error::Reentrant {
             return f.write_str(
-                "this thread is in another call of the store: within a batch its maps are used",
+                "this thread is already inside another call of the same store: in a batch, use the maps of the batch",
             );
         }
         let (mut text, mut needed) = ([0; 128], 0);
@@ -248,7 +263,8 @@ impl std::error::Error for Error {
     }
 }
 
-/// So a function that answers an [`io::Result`] may use a cache by `?`. It has the kind of what caused it, where the system did.
+/// Lets a function that returns an [`io::Result`] use `?` on the calls of a cache. The kind is that of the cause, if the system caused the
+/// error.
 ///
 /// ```
 /// use dilluvas::Error;

@@ -1,9 +1,9 @@
-//! Files of the system, of which many processes may want the same one.
+//! Files of the system, where several processes may try to use the same one.
 //!
-//! A file belongs to whoever has locked it, and has seen behind the lock that the path still leads to it. The new one beside it does too, by
-//! its other name. So nobody changes what the path or the other name of a file leads to but who has locked that file: what is seen of a name
-//! behind the lock stays so until the lock is let go. Where a path leads to no file there is nothing to lock, and it is given one by a call
-//! that refuses where there is one.
+//! A file belongs to the process that has locked it and has then checked, under the lock, that the path still leads to it. The same goes for
+//! the new file next to it, by its other name. So only the process that has locked a file changes what the path or the other name leads to:
+//! what is seen of a name under the lock stays so until the lock is released. If a path leads to no file there is nothing to lock, and a file
+//! gets that name by a call that fails if there is one.
 
 mod copying;
 mod folder;
@@ -15,9 +15,10 @@ mod replacing;
 
 pub use copying::{copy_file, copy_file_with};
 pub(crate) use locked::Locked;
-pub(crate) use replacing::replace;
+pub(crate) use replacing::{Replaced, Replacing, replace};
 
 use crate::error::Error;
+use new::New;
 use std::fs;
 use std::io::{self, ErrorKind};
 use std::path::{Path, PathBuf};
@@ -25,7 +26,7 @@ use std::path::{Path, PathBuf};
 // So often is a file opened again whose place another took meanwhile.
 const MOST_TRIES: usize = 100;
 
-/// Where a file lies that is locked.
+/// A locked file and its path.
 #[derive(Clone)]
 pub(crate) struct Place {
     file: Locked,
@@ -33,8 +34,9 @@ pub(crate) struct Place {
     path: Option<PathBuf>,
 }
 
-/// Opens and locks the file of a path, or makes it where it is absent or empty: then `open` is given one with no bytes, which has its name
-/// once that has succeeded. It is given another one where a process was faster, and what it had made of the first is dropped.
+/// Opens and locks the file at a path, or creates it if it is missing or empty. In that case `open` is given a file with no bytes, which gets
+/// its name once `open` has succeeded. If another process was faster, `open` is called again with the other file, and what it returned for the
+/// first is dropped.
 pub(crate) fn open_or_make<T>(
     path: &Path,
     mut open: impl FnMut(Locked) -> Result<T, Error>,
@@ -43,7 +45,7 @@ pub(crate) fn open_or_make<T>(
     Ok((opened, Place::of(file, path)))
 }
 
-/// Opens and locks the file of a path, which is made by nobody where it is absent. One that is empty is none that a cache wrote.
+/// Opens and locks the file at a path, and fails if it is missing. An empty file is not one that a cache wrote.
 pub(crate) fn open_existing<T>(
     path: &Path,
     open: impl FnOnce(Locked) -> Result<T, Error>,
@@ -61,18 +63,26 @@ pub(crate) fn open_existing<T>(
 }
 
 impl Place {
-    /// Gives the room back that is kept behind the end of the file: whether there was some.
+    /// Whether this process locked the file. A child that was forked did not.
+    pub(crate) fn is_ours(&self) -> bool {
+        self.file.ours().is_ok()
+    }
+
+    /// Releases the room that is reserved after the end of the file, and returns whether there was some.
     pub(crate) fn give_back_room(&self) -> bool {
         self.file.give_back_room()
     }
 
-    /// Unlocks the file, of which nothing is read or written any more.
+    /// Unlocks the file, which is no longer read or written.
     pub(crate) fn let_go(&self) {
         self.file.let_go();
     }
 
     fn of(file: Locked, path: &Path) -> Place {
         let path = fs::canonicalize(path).ok();
+        if let Some(path) = &path {
+            New::take_left_away(path, &file);
+        }
         Place { file, path }
     }
 }

@@ -1,5 +1,4 @@
-//! Keys and values in a file: ordered maps from bytes to bytes, by safe Rust over a library whose calls are proved to do what their contracts
-//! say.
+//! Ordered maps from bytes to bytes, in a file: a safe Rust API over a library whose calls are proved to keep their contracts.
 //!
 //! ```
 //! use dilluvas::Db;
@@ -19,15 +18,15 @@
 //! # }
 //! ```
 //!
-//! A [`Db`] has any number of [`Map`]s by their names, in a file or in memory, and threads share it. What was flushed is there after a crash,
-//! and [`Db::batch`] makes changes of which a crash leaves all or nothing. [`Map::range`] and [`Map::iter`] go through a map in the order of
-//! its keys, from both ends, while it is changed. The file grows by each change, until it is rewritten: by a flush that finds much of it needless
+//! A [`Db`] has any number of [`Map`]s, each with a name, in a file or in memory, and threads can share it. What was flushed survives a crash.
+//! [`Db::batch`] makes changes of which a crash leaves all or nothing. [`Map::range`] and [`Map::iter`] iterate over a map in key order, from
+//! both ends, even while it changes. The file grows with each change until it is rewritten: by a flush that finds much of it obsolete
 //! ([`CompactAt`]), or by [`Db::compact`].
 //!
 //! # Pages
 //!
-//! Below the maps is a cache of pages, for stores of another kind. A page holds some keys and values and has a stamp, which each change
-//! raises by one:
+//! Below the maps is a page cache, for other kinds of stores. A page holds some keys and values, and has a stamp that each change raises by
+//! one:
 //!
 //! ```
 //! use dilluvas::{Cache, NO_PAIRS, Settings, Swap};
@@ -45,12 +44,12 @@
 //! # }
 //! ```
 //!
-//! [`Cache::open`] opens one over a file, and [`Cache::on_device`] over anything that reads, writes and syncs bytes. [`Cache::pin`] opens a
-//! [`Batch`], of which a crash leaves all or nothing. A log only grows, until [`Cache::compact`] rewrites it.
+//! [`Cache::open`] opens a cache over a file, and [`Cache::on_device`] over anything that reads, writes and syncs bytes. [`Cache::pin`] opens a
+//! [`Batch`], of which a crash leaves all or nothing once it is sealed. A log only grows, until [`Cache::compact`] rewrites it.
 //!
-//! Every method takes `&mut self`: a [`Cache`] may go to another thread, and is used by one at a time. It is `Send`, and not `Sync`.
+//! Every method takes `&mut self`: a [`Cache`] can move to another thread, but only one thread at a time uses it. It is `Send`, and not `Sync`.
 //!
-//! Maps lie on pages too. A [`Cache`] over their file may read these, and owes it to them that it changes none.
+//! Maps are stored on pages too. A [`Cache`] over their file may read these pages, but must not change them.
 
 #![deny(unsafe_code)]
 #![warn(missing_docs)]

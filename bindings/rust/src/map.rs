@@ -17,13 +17,12 @@ use crate::db::Db;
 use std::fmt;
 use std::sync::Arc;
 
-/// An ordered map of a [`Db`], from bytes to bytes: what [`Db::map`] answers. That of a batch is what [`DbBatch::map`](crate::DbBatch::map)
-/// answers.
+/// An ordered map of a [`Db`], from bytes to bytes: what [`Db::map`] returns, and in a batch [`DbBatch::map`](crate::DbBatch::map).
 ///
-/// The order of the keys is that of their bytes. A key and a value have any bytes, or none, and up to 2^31 - 1 of them. Numbers whose
-/// [`to_be_bytes`](u64::to_be_bytes) are the keys are in their order.
+/// Keys are in byte order. A key and a value can be any bytes, from none to 2^31 - 1 of them. Keys that are the
+/// [`to_be_bytes`](u64::to_be_bytes) of numbers are in the order of the numbers.
 ///
-/// A `Map` has a name and the `Db`, and no state: a clone is the same map, and so is another one of that name.
+/// A `Map` has a name and the `Db`, and no state of its own: a clone is the same map, and so is another `Map` with that name.
 ///
 /// ```
 /// use dilluvas::{Db, Error};
@@ -45,10 +44,10 @@ use std::sync::Arc;
 ///
 /// # Errors
 ///
-/// Each call answers those of its own, and these, behind which the map is as it was: [`Read`](crate::Error::Read) and
-/// [`OutOfMemory`](crate::Error::OutOfMemory), where the call may be made again; [`Corruption`](crate::Error::Corruption) where pages of the
-/// map can't be read; [`Reentrant`](crate::Error::Reentrant) in the closure of [`Db::batch`]. At [`Write`](crate::Error::Write) a change may
-/// be there, once the file is opened again. A change answers [`DiskFull`](crate::Error::DiskFull) where the disk has no room for it.
+/// Each call can fail with its own errors, and with these, after which the map is as it was: [`Read`](crate::Error::Read) and
+/// [`OutOfMemory`](crate::Error::OutOfMemory), for which the call may be retried; [`Corruption`](crate::Error::Corruption) if pages of the map
+/// can't be read; [`Reentrant`](crate::Error::Reentrant) in the closure of [`Db::batch`]. After [`Write`](crate::Error::Write) the change may
+/// be there once the file is reopened. A change fails with [`DiskFull`](crate::Error::DiskFull) if the disk has no room for it.
 #[derive(Clone)]
 pub struct Map<A = Db> {
     access: A,
@@ -63,7 +62,7 @@ impl<A: Access> Map<A> {
         }
     }
 
-    /// Its name.
+    /// Returns its name.
     ///
     /// ```
     /// use dilluvas::{Db, Error};

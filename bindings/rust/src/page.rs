@@ -6,11 +6,11 @@ use crate::sys;
 use std::fmt;
 use std::iter::FusedIterator;
 
-/// No pairs, for [`Cache::allocate`](crate::Cache::allocate) and [`Cache::replace`](crate::Cache::replace): an empty array of one's own has
-/// no type.
+/// No pairs, for [`Cache::allocate`](crate::Cache::allocate) and [`Cache::replace`](crate::Cache::replace): the type of an empty array of your
+/// own isn't inferred.
 pub const NO_PAIRS: [(&[u8], &[u8]); 0] = [];
 
-/// A page, copied out.
+/// A copy of a page.
 ///
 /// ```
 /// use dilluvas::{Cache, Settings};
@@ -38,7 +38,7 @@ pub struct Page {
 }
 
 impl Page {
-    /// A page that nothing was copied into yet, for [`Cache::get_into`](crate::Cache::get_into). It has no pairs, and no page has its
+    /// Returns a page into which nothing was copied yet, for [`Cache::get_into`](crate::Cache::get_into). It has no pairs, and no page has its
     /// token.
     pub const fn empty() -> Page {
         Page {
@@ -50,31 +50,31 @@ impl Page {
         }
     }
 
-    /// Its token.
+    /// Returns its token.
     #[must_use]
     pub fn token(&self) -> Token {
         self.token
     }
 
-    /// Whether the values are pages, of eight bytes each, the lowest first.
+    /// Returns whether its values are page numbers, of eight bytes each, little-endian.
     #[must_use]
     pub fn is_index(&self) -> bool {
         self.is_index
     }
 
-    /// How many pairs there are.
+    /// Returns the number of pairs.
     #[must_use]
     pub fn len(&self) -> usize {
         self.count
     }
 
-    /// Whether there are none.
+    /// Returns whether there are no pairs.
     #[must_use]
     pub fn is_empty(&self) -> bool {
         self.count == 0
     }
 
-    /// The value of a key, up to which the pairs are read.
+    /// Returns the value of a key, or `None` if the page has no such key. It reads the pairs up to that key.
     #[must_use]
     pub fn get(&self, key: impl AsRef<[u8]>) -> Option<&[u8]> {
         let key = key.as_ref();
@@ -82,7 +82,7 @@ impl Page {
         (found == key).then_some(value)
     }
 
-    /// Its pairs, by ascending keys.
+    /// Iterates over its pairs, in ascending key order.
     ///
     /// ```
     /// use dilluvas::{Cache, Settings};
@@ -119,7 +119,7 @@ impl Page {
         self.buffer.resize(needed, 0);
     }
 
-    /// Takes what was told of the page whose pairs were copied.
+    /// Becomes the page whose pairs were copied, by what the library reported of it.
     pub(crate) fn become_page(&mut self, page: u64, found: &sys::Found) {
         self.token = Token {
             page,
@@ -166,7 +166,7 @@ impl<'a> IntoIterator for &'a Page {
     }
 }
 
-/// The pairs of a page, by ascending keys: what [`Page::pairs`] answers.
+/// An iterator over the pairs of a page, in ascending key order: what [`Page::pairs`] returns.
 #[derive(Clone)]
 pub struct Pairs<'a> {
     rest: &'a [u8],
@@ -174,7 +174,7 @@ pub struct Pairs<'a> {
 }
 
 impl<'a> Pairs<'a> {
-    /// So many pairs, as the library writes them.
+    /// That many pairs, as the library writes them.
     pub(crate) fn of(bytes: &'a [u8], count: usize) -> Pairs<'a> {
         Pairs { rest: bytes, count }
     }

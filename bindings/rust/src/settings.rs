@@ -13,15 +13,15 @@
 #[repr(C)]
 #[derive(Clone, Copy, Debug, PartialEq, Eq)]
 pub struct Settings {
-    /// Bytes of messages whose pages stay in memory as nodes, at least 256.
+    /// The capacity of the cache: bytes of messages whose pages stay in memory as nodes, at least 256.
     pub cache_capacity: u64,
     /// How many ids one counter covers, at least 1.
     pub idgen_persist_interval: u64,
-    /// The bytes of a segment of the log, at least 1.
+    /// The size of a segment of the log, in bytes, at least 1.
     pub segment_size: usize,
-    /// Payloads of more bytes are kept beside the log.
+    /// Payloads of more bytes than this are kept next to the log, as blobs.
     pub blob_limit: usize,
-    /// A page is due to be moved for so many messages, and none where this is 0.
+    /// One page is due to be moved for every `clean_every` messages that are appended, and none if this is 0.
     pub clean_every: u64,
 }
 
@@ -37,18 +37,18 @@ impl Default for Settings {
     }
 }
 
-/// The settings of a cache over a file or another device. It may be opened with others than it was made with, but for a smaller interval of
-/// ids.
+/// The settings of a cache over a file or another device. It may be opened with other settings than those with which it was created, except for
+/// a smaller interval of ids.
 // The library reads it, as above.
 #[repr(C)]
 #[derive(Clone, Copy, Debug, PartialEq, Eq)]
 pub struct FileSettings {
-    /// Bytes of messages whose pages stay in memory as nodes, at least 256.
+    /// The capacity of the cache: bytes of messages whose pages stay in memory as nodes, at least 256.
     pub cache_capacity: u64,
-    /// How many ids one counter covers, at least 1: an opening skips at most twice as many. It is never made smaller: an id could come
-    /// twice then.
+    /// How many ids one counter covers, at least 1: an opening skips at most twice as many. Never make it smaller over the same file: an id
+    /// could then be returned twice.
     pub idgen_persist_interval: u64,
-    /// At so many bytes that are pending they are written, at least 1: this takes two syncs.
+    /// Once this many bytes are pending, they are written, which takes two syncs. At least 1.
     pub segment_size: usize,
 }
 

@@ -1,11 +1,14 @@
-//! The functions of the library, as `bindings/c/dilluvas.h` declares them, and a safe one over each, which answers the status. Nothing
-//! compares the two but the programs that call both. Behind them is one of the system's. No other module but those in it has `unsafe`.
+//! The functions of the library, as `bindings/c/dilluvas.h` declares them, with a safe one over each, which returns the status. Nothing
+//! compares these declarations with the header except the programs that call both. After them are two functions of the system. Only this module
+//! and those in it have `unsafe`.
 
 #![allow(unsafe_code)]
 
 mod maps;
+mod rewriting;
 
 pub use maps::{Piece, Side};
+pub use rewriting::Rewriting;
 
 use crate::settings::{FileSettings, Settings};
 #[cfg(all(target_os = "linux", target_pointer_width = "64"))]
@@ -32,7 +35,7 @@ pub const DISK_FULL: u32 = 35;
 pub const NOTHING: u32 = 0;
 pub const SYNC: u32 = 2;
 
-/// What is kept of a cache, which is closed where it is all zeros.
+/// The handle of a cache. All zeros is a closed one.
 #[repr(C)]
 pub struct Handle {
     at: *mut c_void,
@@ -42,7 +45,7 @@ pub struct Handle {
 // SAFETY: that a handle may go to another thread is proved where the library declares it.
 unsafe impl Send for Handle {}
 
-/// What is done next to a file.
+/// The next task on a file.
 #[repr(C)]
 #[derive(Default)]
 pub struct Task {
@@ -51,7 +54,7 @@ pub struct Task {
     pub len: usize,
 }
 
-/// What is told of a page beside its pairs.
+/// What the library reports of a page, besides its pairs.
 #[repr(C)]
 #[derive(Default)]
 pub struct Found {
@@ -257,7 +260,7 @@ pub fn text(status: u32, buffer: &mut [u8], needed: &mut usize) -> u32 {
     unsafe { dilluvas_raw_text(status, buffer.as_mut_ptr(), buffer.len(), needed) }
 }
 
-/// How many bytes a file may have that this process writes (RLIMIT_FSIZE): a write past that raises a signal, which ends the process.
+/// Returns how many bytes a file that this process writes may have (RLIMIT_FSIZE): a write past that raises a signal, which ends the process.
 #[cfg(all(target_os = "linux", target_pointer_width = "64"))]
 pub fn longest_file() -> u64 {
     unsafe extern "C" {
@@ -271,13 +274,13 @@ pub fn longest_file() -> u64 {
     soft_and_hard[0]
 }
 
-/// How many bytes a file may have that this process writes: elsewhere that isn't asked.
+/// Returns the greatest number: other systems are not asked for their limit.
 #[cfg(not(all(target_os = "linux", target_pointer_width = "64")))]
 pub fn longest_file() -> u64 {
     u64::MAX
 }
 
-/// Keeps room for so many bytes of a file from a place on (fallocate), and leaves its length.
+/// Reserves room for `len` bytes of a file from `at` on (fallocate), without changing its length.
 #[cfg(all(target_os = "linux", target_pointer_width = "64"))]
 pub fn keep_room(file: &File, at: u64, len: u64) -> io::Result<()> {
     unsafe extern "C" {
@@ -294,7 +297,7 @@ pub fn keep_room(file: &File, at: u64, len: u64) -> io::Result<()> {
     }
 }
 
-/// Keeps room for so many bytes of a file: elsewhere none is kept.
+/// Fails with `Unsupported`: on other systems no room is reserved.
 #[cfg(not(all(target_os = "linux", target_pointer_width = "64")))]
 pub fn keep_room(_: &File, _: u64, _: u64) -> io::Result<()> {
     Err(io::ErrorKind::Unsupported.into())

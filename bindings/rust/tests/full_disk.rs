@@ -4,8 +4,9 @@
 
 mod folder;
 
-use dilluvas::{Cache, Db, Error, FileSettings, Map, NO_PAIRS};
+use dilluvas::{Cache, CompactAt, Db, Error, FileSettings, Map, NO_PAIRS};
 use folder::Folder;
+use std::error::Error as _;
 use std::fmt::Write as _;
 use std::fs;
 use std::io::Write as _;
@@ -185,6 +186,107 @@ fn a_rewriting_without_room_leaves_the_store() {
         .unwrap();
     other.flush().unwrap();
     check(&other.map("m"), keys + 1, 1000);
+}
+
+// A rewriting that is on its way is given up before a change is refused.
+#[test]
+fn steps_of_a_rewriting_leave_the_room_to_changes() {
+    let Some(disk) = Disk::new("steps", 24 << 10) else {
+        return;
+    };
+    let db = Db::open_with(disk.file(), &SMALL).unwrap();
+    let steps = CompactAt {
+        times: 2,
+        least: 0,
+        most: u64::MAX,
+        step: 1 << 20,
+    };
+    db.set_compact_at(Some(steps)).unwrap();
+    let other = disk.file().with_extension("dilluvas-new");
+    let mut was_on_its_way = 0;
+    let mut keys = 0u32;
+    while let Ok(_) = db.map("m").set(keys.to_be_bytes(), value_of(keys, 400)) {
+        // each value is written twice, so that there is something to rewrite
+        db.map("m")
+            .set(keys.to_be_bytes(), value_of(keys, 400))
+            .ok();
+        keys += 1;
+        if keys % 64 == 0 {
+            db.flush().unwrap();
+            was_on_its_way += usize::from(other.exists());
+        }
+    }
+    assert!(was_on_its_way > 0);
+    assert!(!other.exists());
+    check_told(&db);
+    check(&db.map("m"), keys, 400);
+    db.flush().unwrap();
+    drop(db);
+    check_file(&disk.file(), keys, 400);
+}
+
+// A rewriting ends by then, whatever a step is.
+const MOST_FLUSHES: u32 = 100_000;
+
+// That the last rewriting by a flush had no room.
+fn check_told(db: &Db) {
+    let told = db.rewriting_failure().unwrap().expect("it failed");
+    assert_eq!(told, disk_full());
+    let cause = told.source().expect("the system caused it");
+    let cause: &std::io::Error = cause.downcast_ref().unwrap();
+    assert_eq!(cause.kind(), std::io::ErrorKind::StorageFull);
+}
+
+#[test]
+fn a_rewriting_by_flushes_that_has_no_room_is_told() {
+    let Some(disk) = Disk::new("told", 6 << 10) else {
+        return;
+    };
+    let steps = CompactAt {
+        times: 2,
+        least: 0,
+        most: u64::MAX,
+        step: 1,
+    };
+    let other = disk.file().with_extension("dilluvas-new");
+    let db = Db::open_with(disk.file(), &SMALL).unwrap();
+    db.set_compact_at(None).unwrap();
+    for key in (0..400u32).cycle().take(1600) {
+        let value = value_of(key, 400);
+        db.map("m").set(key.to_be_bytes(), value).unwrap();
+    }
+    db.flush().unwrap();
+    assert_eq!(db.rewriting_failure(), Ok(None));
+    // none is begun
+    db.set_compact_at(Some(steps)).unwrap();
+    assert_eq!(db.flush(), Ok(0));
+    assert!(!other.exists());
+    check_told(&db);
+    // a step finds none
+    disk.set_size(64 << 10);
+    db.set_compact_at(Some(steps)).unwrap();
+    assert_eq!(db.flush(), Ok(0));
+    assert!(other.exists());
+    check_told(&db);
+    let filler = disk.place.join("filler");
+    let mut file = fs::File::create(&filler).unwrap();
+    while file.write_all(&[0; 4096]).is_ok() {}
+    drop(file);
+    let is_ended = |_| {
+        assert_eq!(db.flush(), Ok(0));
+        !other.exists()
+    };
+    assert!((0..MOST_FLUSHES).any(is_ended));
+    check_told(&db);
+    check(&db.map("m"), 400, 400);
+    // until one has replaced the file
+    fs::remove_file(filler).unwrap();
+    let before = db.size_on_disk().unwrap();
+    db.set_compact_at(Some(steps)).unwrap();
+    assert!((0..MOST_FLUSHES).any(is_ended));
+    assert_eq!(db.rewriting_failure(), Ok(None));
+    assert!(db.size_on_disk().unwrap() < before);
+    check(&db.map("m"), 400, 400);
 }
 
 #[test]

@@ -133,6 +133,8 @@ fn change_until_killed(seed: u64) {
             times: 2,
             least: 0,
             most: u64::MAX,
+            // at once, or in a few steps
+            step: [0, 1, 20_000][seed as usize % 3],
         };
         db.set_compact_at(Some(compact_at)).unwrap();
     }

@@ -5,7 +5,7 @@ mod folder;
 mod hooks;
 mod refused;
 
-use dilluvas::{Cache, Db, Error, FileSettings};
+use dilluvas::{Cache, CompactAt, Db, Error, FileSettings};
 use folder::Folder;
 use hooks::forked;
 use std::fs;
@@ -148,6 +148,53 @@ fn a_forked_child_does_nothing_to_the_file_of_a_db() {
     assert!(fs::read(folder.file()).unwrap() == flushed);
     assert_eq!(db.map("m").get("k"), Ok(Some(b"v".to_vec())));
     assert_eq!(db.map_names(), Ok(vec![b"m".to_vec()]));
+}
+
+// A rewriting is the parent's too.
+#[test]
+fn a_forked_child_takes_no_step_of_a_rewriting() {
+    let folder = Folder::new("forked-steps");
+    let other = folder.path().join("pages.dilluvas-new");
+    let db = Db::open(folder.file()).unwrap();
+    let steps = CompactAt {
+        times: 2,
+        least: 0,
+        most: u64::MAX,
+        step: 1,
+    };
+    db.set_compact_at(Some(steps)).unwrap();
+    let mut count = 0u32;
+    while !other.exists() {
+        db.map("m").set("k", count.to_le_bytes()).unwrap();
+        db.flush().unwrap();
+        count += 1;
+    }
+    let present = || fs::metadata(&other).map(|found| (found.len(), found.modified().unwrap()));
+    let before = present().unwrap();
+    let mut kept = Some(db);
+    let child = forked(|| {
+        let db = kept.take().unwrap();
+        // nothing is pending
+        for _ in 0..100 {
+            let _ = db.flush();
+        }
+        drop(db);
+        55
+    });
+    assert_eq!(child, 55);
+    assert_eq!(present().unwrap(), before);
+    let db = kept.take().unwrap();
+    while other.exists() {
+        db.map("n").set("k", count.to_le_bytes()).unwrap();
+        db.flush().unwrap();
+        count += 1;
+    }
+    assert_eq!(Db::open(folder.file()).map(drop), Err(Error::Held));
+    drop(db);
+    assert_eq!(
+        Db::open(folder.file()).unwrap().map_names().unwrap().len(),
+        2
+    );
 }
 
 // The thread that has the lock isn't there in the child, and never lets it go.

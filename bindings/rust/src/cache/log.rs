@@ -5,7 +5,7 @@ use crate::answer::Amplification;
 use crate::error::{Error, done};
 
 impl Cache {
-    /// A number that was never given before. It ascends, and a crash may skip some.
+    /// Returns a number that was never returned before. Numbers ascend, and a crash may skip some.
     ///
     /// ```
     /// use dilluvas::{Cache, Settings};
@@ -20,7 +20,7 @@ impl Cache {
     ///
     /// # Errors
     ///
-    /// [`IdsUsedUp`](Error::IdsUsedUp); [`BatchOpen`](Error::BatchOpen) where a batch is open, and a new counter is needed;
+    /// [`IdsUsedUp`](Error::IdsUsedUp); [`BatchOpen`](Error::BatchOpen) if a batch is open and a new counter is needed;
     /// [`StampUsedUp`](Error::StampUsedUp), [`LogFull`](Error::LogFull), [`OutOfMemory`](Error::OutOfMemory), [`Write`](Error::Write). No
     /// number is used up then.
     pub fn generate_id(&mut self) -> Result<u64, Error> {
@@ -29,7 +29,7 @@ impl Cache {
         Ok(id)
     }
 
-    /// Makes all that is pending durable, and answers how many bytes that wrote.
+    /// Makes all pending changes durable, and returns how many bytes it wrote.
     ///
     /// # Errors
     ///
@@ -40,7 +40,7 @@ impl Cache {
         Ok(written)
     }
 
-    /// How many bytes the log has.
+    /// Returns the size of the log, in bytes.
     ///
     /// # Errors
     ///
@@ -51,7 +51,8 @@ impl Cache {
         Ok(bytes)
     }
 
-    /// How many bytes of the log make the pages, which is about what a rewriting leaves. It reads nothing, and looks at each page's place.
+    /// Returns how many bytes of the log the pages are made of, which is about what a rewrite leaves. It looks up the place of each page, and
+    /// reads nothing.
     ///
     /// ```
     /// use dilluvas::{Cache, Settings};
@@ -79,7 +80,7 @@ impl Cache {
         Ok(bytes)
     }
 
-    /// How much the log takes, and how much the pages would. It reads the pages that don't lie in memory.
+    /// Returns how much space the log takes, and how much the pages would take. It reads the pages that are not in memory.
     ///
     /// ```
     /// use dilluvas::{Cache, Settings};
@@ -104,19 +105,19 @@ impl Cache {
         Ok(Amplification { log, pages })
     }
 
-    /// Moves the page that is due, and answers whether there was one. No page, stamp or id changes.
+    /// Moves the page that is due, and returns whether there was one. No page, stamp or id changes.
     ///
     /// # Errors
     ///
-    /// [`NotOverFile`](Error::NotOverFile) over a file or another device, where no page is due, or [`Write`](Error::Write) there;
-    /// [`LogFull`](Error::LogFull), [`OutOfMemory`](Error::OutOfMemory): the page isn't due again then.
+    /// [`NotOverFile`](Error::NotOverFile) over a file or another device, where no page is ever due, or [`Write`](Error::Write) there;
+    /// [`LogFull`](Error::LogFull), [`OutOfMemory`](Error::OutOfMemory): then the page is not due again.
     pub fn attempt_gc(&mut self) -> Result<bool, Error> {
         let mut moved = false;
         self.call(|handle| handle.gc(&mut moved))?;
         Ok(moved)
     }
 
-    /// Whether the log had the cache's own pages as it was opened: a new one has not.
+    /// Returns whether the log already had the cache's own pages when it was opened: a new log has none.
     ///
     /// # Errors
     ///

@@ -5,7 +5,7 @@ use crate::error::{Error, done};
 use crate::sys;
 
 impl Cache {
-    /// The root page of a name, or none. A name is any bytes.
+    /// Returns the root page of a name, or `None`. A name can be any bytes.
     ///
     /// # Errors
     ///
@@ -19,7 +19,8 @@ impl Cache {
         }
     }
 
-    /// Gives a name another root page, or none, if its root is `old`. Else the root that it has comes back as the inner error.
+    /// If the root page of a name is `old`, sets it to `new`. Otherwise nothing changes, and the inner error is the current root. `None` means
+    /// no root.
     ///
     /// ```
     /// use dilluvas::{Cache, NO_PAIRS, Settings};
@@ -60,7 +61,7 @@ impl Cache {
         }
     }
 
-    /// The root page of a name. A name that has none is given an index over an empty leaf.
+    /// Returns the root page of a name. For a name without a root it makes one: an index over an empty leaf.
     ///
     /// ```
     /// use dilluvas::{Cache, Settings};
@@ -81,7 +82,7 @@ impl Cache {
     ///
     /// [`TooManyNames`](Error::TooManyNames), [`NameTooLong`](Error::NameTooLong), [`Write`](Error::Write), and
     /// [`PagesUsedUp`](Error::PagesUsedUp), [`StampUsedUp`](Error::StampUsedUp), [`LogFull`](Error::LogFull) and
-    /// [`OutOfMemory`](Error::OutOfMemory), where the leaf that was made, or the leaf and the index, stay: nothing leads to them.
+    /// [`OutOfMemory`](Error::OutOfMemory): after one of these four a leaf or an index that was made stays, and nothing leads to it.
     pub fn open_tree(&mut self, name: impl AsRef<[u8]>) -> Result<u64, Error> {
         let (name, mut page) = (name.as_ref(), 0);
         done(self.change(name.len(), |handle| handle.open_tree(name, &mut page))?)?;

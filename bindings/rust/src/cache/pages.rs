@@ -10,8 +10,8 @@ use crate::sys;
 const USUAL_VALUE: usize = 64;
 
 impl Cache {
-    /// Puts a leaf of these pairs, whose keys ascend by their bytes, on a page: the free page of the greatest number, or else a new one.
-    /// [`NO_PAIRS`](crate::NO_PAIRS) is an empty leaf.
+    /// Writes a leaf of these pairs, whose keys must ascend in byte order, to the free page with the greatest number, or else to a new page.
+    /// Returns its token. [`NO_PAIRS`](crate::NO_PAIRS) is an empty leaf.
     ///
     /// ```
     /// use dilluvas::{Cache, Error, NO_PAIRS, Settings};
@@ -29,7 +29,7 @@ impl Cache {
     ///
     /// # Errors
     ///
-    /// [`Arguments`](Error::Arguments) where the keys don't ascend, or a leaf can't hold the pairs; [`PagesUsedUp`](Error::PagesUsedUp),
+    /// [`Arguments`](Error::Arguments) if the keys don't ascend, or a leaf can't hold the pairs; [`PagesUsedUp`](Error::PagesUsedUp),
     /// [`StampUsedUp`](Error::StampUsedUp), [`LogFull`](Error::LogFull), [`OutOfMemory`](Error::OutOfMemory), [`Write`](Error::Write).
     pub fn allocate<K: AsRef<[u8]>, V: AsRef<[u8]>>(
         &mut self,
@@ -43,7 +43,7 @@ impl Cache {
         Ok(Token { page, stamp })
     }
 
-    /// A page, or none where there is no such page.
+    /// Returns a copy of a page, or `None` if there is no such page.
     ///
     /// # Errors
     ///
@@ -55,7 +55,7 @@ impl Cache {
         Ok(is_there.then_some(found))
     }
 
-    /// As [`get`](Cache::get), into a page whose memory is used again. It answers whether there is such a page.
+    /// Like [`get`](Cache::get), but copies into a page whose memory is reused. Returns whether there is such a page.
     ///
     /// ```
     /// use dilluvas::{Cache, Page, Settings};
@@ -77,7 +77,7 @@ impl Cache {
     ///
     /// # Errors
     ///
-    /// As [`get`](Cache::get). The page that is given is empty then, as it is where there is no such page.
+    /// As for [`get`](Cache::get). After an error `to` is empty, as it is if there is no such page.
     pub fn get_into(&mut self, page: u64, to: &mut Page) -> Result<bool, Error> {
         let mut found = sys::Found::default();
         to.clear();
@@ -93,8 +93,8 @@ impl Cache {
         Ok(true)
     }
 
-    /// Appends the value of a key of a leaf, and answers the page's token, or none where there is no such page or key. The other pairs
-    /// aren't copied.
+    /// Appends the value of a key of a leaf to `value`, and returns the page's token, or `None` if there is no such page or key. The other
+    /// pairs are not copied.
     ///
     /// ```
     /// use dilluvas::{Cache, Settings};
@@ -112,7 +112,7 @@ impl Cache {
     ///
     /// # Errors
     ///
-    /// [`Index`](Error::Index) where the page is an index; [`ReservedId`](Error::ReservedId), [`OutOfMemory`](Error::OutOfMemory),
+    /// [`Index`](Error::Index) if the page is an index; [`ReservedId`](Error::ReservedId), [`OutOfMemory`](Error::OutOfMemory),
     /// [`Read`](Error::Read), [`Write`](Error::Write), [`Corruption`](Error::Corruption). Nothing is appended then.
     pub fn value_into(
         &mut self,
@@ -139,11 +139,11 @@ impl Cache {
         }
     }
 
-    /// Maps a key of a leaf to a value. [`Swap`] has an example.
+    /// Sets the value of a key of a leaf. See [`Swap`] for an example.
     ///
     /// # Errors
     ///
-    /// [`LinkRefused`](Error::LinkRefused) where the page is an index, or the leaf has no room for the key; [`ReservedId`](Error::ReservedId),
+    /// [`LinkRefused`](Error::LinkRefused) if the page is an index, or the leaf has no room for the key; [`ReservedId`](Error::ReservedId),
     /// [`StampUsedUp`](Error::StampUsedUp), [`LogFull`](Error::LogFull), [`OutOfMemory`](Error::OutOfMemory), [`Read`](Error::Read),
     /// [`Write`](Error::Write), [`Corruption`](Error::Corruption).
     pub fn set(
@@ -158,11 +158,11 @@ impl Cache {
         })
     }
 
-    /// Takes a key out of a leaf, whether or not it is there.
+    /// Removes a key from a leaf, whether or not it is there.
     ///
     /// # Errors
     ///
-    /// As [`set`](Cache::set).
+    /// As for [`set`](Cache::set).
     pub fn del(&mut self, token: Token, key: impl AsRef<[u8]>) -> Result<Swap, Error> {
         let key = key.as_ref();
         self.swap(token, key.len(), |handle, page, stamp| {
@@ -170,8 +170,8 @@ impl Cache {
         })
     }
 
-    /// Puts a leaf of these pairs, whose keys ascend by their bytes, on a page in place of what it held. In memory the page that is due is
-    /// moved then, as by [`attempt_gc`](Cache::attempt_gc), whatever comes of it.
+    /// Replaces the contents of a page with a leaf of these pairs, whose keys must ascend in byte order. In memory it then moves the page that
+    /// is due, as [`attempt_gc`](Cache::attempt_gc) does; the move never changes the result of this call.
     ///
     /// ```
     /// use dilluvas::{Cache, Settings};
@@ -188,7 +188,7 @@ impl Cache {
     ///
     /// # Errors
     ///
-    /// [`Arguments`](Error::Arguments) where the keys don't ascend, or a leaf can't hold the pairs; [`ReservedId`](Error::ReservedId),
+    /// [`Arguments`](Error::Arguments) if the keys don't ascend, or a leaf can't hold the pairs; [`ReservedId`](Error::ReservedId),
     /// [`StampUsedUp`](Error::StampUsedUp), [`LogFull`](Error::LogFull), [`OutOfMemory`](Error::OutOfMemory), [`Write`](Error::Write).
     pub fn replace<K: AsRef<[u8]>, V: AsRef<[u8]>>(
         &mut self,
@@ -201,7 +201,7 @@ impl Cache {
         })
     }
 
-    /// Frees a page: it is gone for every other call, until [`allocate`](Cache::allocate) uses its number again, at the next stamp.
+    /// Frees a page: it is gone for every other call, until [`allocate`](Cache::allocate) reuses its number, at the next stamp.
     ///
     /// ```
     /// use dilluvas::{Cache, NO_PAIRS, Settings};

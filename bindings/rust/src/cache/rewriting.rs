@@ -1,11 +1,10 @@
 //! Rewriting a cache into a new log.
 
 use super::{Cache, Place};
-use crate::device::{Attached, Device};
+use crate::device::Device;
 use crate::error::{Error, done};
-use crate::file;
+use crate::file::{self, Replaced};
 use crate::settings::FileSettings;
-use crate::sys;
 use std::mem;
 use std::thread;
 
@@ -56,6 +55,7 @@ impl Cache {
     /// its parent. Where the folder couldn't be synced every later call answers that: the new file is there, but a crash may bring back the
     /// old one.
     pub fn compact(&mut self) -> Result<(), Error> {
+        self.end_rewriting();
         match &self.place {
             Place::Memory(settings) => {
                 let settings = *settings;
@@ -113,6 +113,16 @@ impl Cache {
         // behind a write that failed no file is made
         self.size()?;
         let replaced = file::replace(place, |file| self.rewritten(Box::new(file), &settings))?;
+        self.go_over(replaced, settings, place)
+    }
+
+    /// Goes on over the file that took the place of the old one.
+    pub(super) fn go_over(
+        &mut self,
+        replaced: Replaced<Cache>,
+        settings: FileSettings,
+        place: &file::Place,
+    ) -> Result<(), Error> {
         let old = mem::replace(self, replaced.opened);
         self.place = Place::File(settings, replaced.place);
         // which of the two files a crash leaves isn't known where this fails, so nothing is written to the new one
@@ -133,16 +143,10 @@ impl Cache {
         device: Box<dyn Device>,
         settings: &FileSettings,
     ) -> Result<Cache, Error> {
-        let attached = Attached::new(device)?;
-        if attached.end() > 0 {
+        let mut next = Cache::closed_on(device, settings)?;
+        if next.end() > 0 {
             return Err(Error::Arguments);
         }
-        let mut next = Cache {
-            handle: sys::Handle::CLOSED,
-            attached: Some(attached),
-            place: Place::Device(*settings),
-            longest: 0,
-        };
         let rewritten = self.rewrite_into(&mut next, settings);
         self.handle.forget();
         rewritten.map_err(Error::or_disk_full)?;

@@ -9,14 +9,15 @@ use std::cell::RefCell;
 use std::fmt;
 
 impl Db {
-    /// Makes changes in any maps, of which a crash leaves all or nothing: all once a [`flush`](Db::flush) has answered. No other thread sees a
-    /// part of them.
+    /// Makes changes in any maps, of which a crash leaves all or nothing, and all once a [`flush`](Db::flush) has returned `Ok`. No other
+    /// thread sees a part of them.
     ///
-    /// The batch is sealed where the closure answers `Ok`. **Nothing is ever undone**: where it answers an error, or panics, the changes that
-    /// it had made stand, and a crash may leave a part of them. So a batch looks first, and changes then. [`NotSealed`] says so again.
+    /// The batch is sealed when the closure returns `Ok`. **Nothing is ever undone**: if the closure returns an error, or panics, the changes
+    /// that it made remain, and a crash may leave a part of them. So make all checks in a batch before its first change. See [`NotSealed`].
     ///
-    /// The closure has the lock: other threads wait for its end. It makes its calls by the maps of the batch. A call of the [`Db`] or of one of
-    /// its maps answers [`Reentrant`](Error::Reentrant) there, and it must not wait for a thread that makes one.
+    /// The closure runs under the lock: other threads wait until it ends. It makes its calls through the maps of the batch. In the closure a
+    /// call of the [`Db`] or of one of its maps fails with [`Reentrant`](Error::Reentrant), and the closure must not wait for a thread that
+    /// makes such a call.
     ///
     /// ```
     /// use dilluvas::{Db, Error};
@@ -57,8 +58,8 @@ impl Db {
     ///
     /// # Errors
     ///
-    /// That of the closure. Before it is called, [`Reentrant`](Error::Reentrant), [`BatchOpen`](Error::BatchOpen),
-    /// [`LogFull`](Error::LogFull), [`OutOfMemory`](Error::OutOfMemory) and [`Write`](Error::Write); behind it [`Write`](Error::Write).
+    /// The error of the closure. Before the closure is called: [`Reentrant`](Error::Reentrant), [`BatchOpen`](Error::BatchOpen),
+    /// [`LogFull`](Error::LogFull), [`OutOfMemory`](Error::OutOfMemory) and [`Write`](Error::Write); after it: [`Write`](Error::Write).
     pub fn batch<T>(
         &self,
         changes: impl FnOnce(&DbBatch<'_>) -> Result<T, Error>,
@@ -75,7 +76,7 @@ impl Db {
     }
 }
 
-/// A batch that is open in a [`Db`], which has its lock: what the closure of [`Db::batch`] is given.
+/// An open batch of a [`Db`], which holds its lock: what the closure of [`Db::batch`] is given.
 ///
 /// ```
 /// use dilluvas::{Db, DbBatch, Error};
@@ -104,7 +105,7 @@ struct Open<'a> {
 }
 
 impl<'a> DbBatch<'a> {
-    /// The map of a name, as [`Db::map`] answers it: its calls belong to the batch.
+    /// Returns the map with this name, as [`Db::map`] does. Its calls belong to the batch.
     ///
     /// ```
     /// use dilluvas::{Db, Error};
@@ -123,7 +124,7 @@ impl<'a> DbBatch<'a> {
         Map::new(self, name.as_ref())
     }
 
-    /// The names of the maps, as [`Db::map_names`] answers them.
+    /// Returns the names of the maps, as [`Db::map_names`] does.
     ///
     /// ```
     /// use dilluvas::{Db, Error};
@@ -139,12 +140,12 @@ impl<'a> DbBatch<'a> {
     ///
     /// # Errors
     ///
-    /// As of [`Db::map_names`].
+    /// As for [`Db::map_names`].
     pub fn map_names(&self) -> Result<Vec<Vec<u8>>, Error> {
         self.with(|calls| calls.names())
     }
 
-    /// Takes a map away, as [`Db::drop_map`] does.
+    /// Removes a map, as [`Db::drop_map`] does.
     ///
     /// ```
     /// use dilluvas::{Db, Error};
@@ -164,7 +165,7 @@ impl<'a> DbBatch<'a> {
     ///
     /// # Errors
     ///
-    /// As of [`Db::drop_map`].
+    /// As for [`Db::drop_map`].
     pub fn drop_map(&self, name: impl AsRef<[u8]>) -> Result<bool, Error> {
         self.with(|calls| calls.drop_map(name.as_ref()))
     }
@@ -187,9 +188,9 @@ impl fmt::Debug for DbBatch<'_> {
     }
 }
 
-/// Why a batch was not sealed. Nothing was undone: the changes that it had made stand, and a crash may leave a part of them.
+/// Why a batch was not sealed. Nothing was undone: the changes that it had made remain, and a crash may leave a part of them.
 ///
-/// By `?` a function that answers an [`Error`] hands on the error in it.
+/// In a function that returns an [`Error`], `?` passes on the error in it.
 ///
 /// ```
 /// use dilluvas::{Db, Error, NotSealed};
@@ -208,7 +209,7 @@ impl fmt::Debug for DbBatch<'_> {
 /// ```
 #[derive(Clone, Debug, PartialEq, Eq)]
 pub struct NotSealed {
-    /// The error of the closure, or that of opening or of sealing the batch.
+    /// The error of the closure, or of opening or sealing the batch.
     pub error: Error,
 }
 

@@ -10,7 +10,7 @@ use std::path::Path;
 use std::sync::Arc;
 
 impl Db {
-    /// Opens the maps in a file, which is made where it is absent or empty. It is locked until the `Db` is dropped.
+    /// Opens the maps in a file, which is created if it is missing or empty. The file is locked until the `Db` is dropped.
     ///
     /// ```
     /// use dilluvas::{Db, Error};
@@ -35,14 +35,14 @@ impl Db {
     ///
     /// # Errors
     ///
-    /// As of [`Cache::open`]: [`NoFile`](Error::NoFile), [`NoAccess`](Error::NoAccess), [`Held`](Error::Held);
-    /// [`Corruption`](Error::Corruption) where no cache wrote the file; [`Read`](Error::Read), [`Write`](Error::Write),
+    /// As for [`Cache::open`]: [`NoFile`](Error::NoFile), [`NoAccess`](Error::NoAccess), [`Held`](Error::Held);
+    /// [`Corruption`](Error::Corruption) if no cache wrote the file; [`Read`](Error::Read), [`Write`](Error::Write),
     /// [`OutOfMemory`](Error::OutOfMemory), [`LogFull`](Error::LogFull).
     pub fn open(path: impl AsRef<Path>) -> Result<Db, Error> {
         Db::open_with(path, &FileSettings::default())
     }
 
-    /// The same with other settings than the usual ones.
+    /// Like [`open`](Db::open), with these settings instead of the defaults.
     ///
     /// ```
     /// use dilluvas::{Db, Error, FileSettings};
@@ -60,13 +60,13 @@ impl Db {
     ///
     /// # Errors
     ///
-    /// As of [`open`](Db::open), and [`CapacityTooSmall`](Error::CapacityTooSmall), [`IntervalZero`](Error::IntervalZero),
+    /// As for [`open`](Db::open), and [`CapacityTooSmall`](Error::CapacityTooSmall), [`IntervalZero`](Error::IntervalZero),
     /// [`SegmentZero`](Error::SegmentZero).
     pub fn open_with(path: impl AsRef<Path>, settings: &FileSettings) -> Result<Db, Error> {
         Cache::open(path, settings).map(Db::of)
     }
 
-    /// Opens the maps in a file that is there: none is made, and no empty one is filled. Else it is as [`open`](Db::open).
+    /// Opens the maps in an existing file: it creates no file, and fills no empty one. Otherwise it is like [`open`](Db::open).
     ///
     /// ```
     /// use dilluvas::{Db, Error};
@@ -83,18 +83,17 @@ impl Db {
     ///
     /// # Errors
     ///
-    /// As of [`open`](Db::open): [`NoAccess`](Error::NoAccess) where there is no file, and [`Corruption`](Error::Corruption) where it is
-    /// empty.
+    /// As for [`open`](Db::open): [`NoAccess`](Error::NoAccess) if there is no file, and [`Corruption`](Error::Corruption) if it is empty.
     pub fn open_existing(path: impl AsRef<Path>) -> Result<Db, Error> {
         Db::open_existing_with(path, &FileSettings::default())
     }
 
-    /// The same with other settings than the usual ones.
+    /// Like [`open_existing`](Db::open_existing), with these settings instead of the defaults.
     ///
     /// # Errors
     ///
-    /// As of [`open_existing`](Db::open_existing), and [`CapacityTooSmall`](Error::CapacityTooSmall),
-    /// [`IntervalZero`](Error::IntervalZero), [`SegmentZero`](Error::SegmentZero).
+    /// As for [`open_existing`](Db::open_existing), and [`CapacityTooSmall`](Error::CapacityTooSmall), [`IntervalZero`](Error::IntervalZero),
+    /// [`SegmentZero`](Error::SegmentZero).
     pub fn open_existing_with(
         path: impl AsRef<Path>,
         settings: &FileSettings,
@@ -102,7 +101,7 @@ impl Db {
         Cache::open_existing(path, settings).map(Db::of)
     }
 
-    /// Maps in memory, of which there are none yet. Nothing is left of them once the `Db` is dropped.
+    /// Opens a store in memory that has no maps yet. Nothing is left of it once the `Db` is dropped.
     ///
     /// ```
     /// use dilluvas::{Db, Error};
@@ -119,7 +118,7 @@ impl Db {
         Db::in_memory_with(&Settings::default())
     }
 
-    /// The same with other settings than the usual ones.
+    /// Like [`in_memory`](Db::in_memory), with these settings instead of the defaults.
     ///
     /// ```
     /// use dilluvas::{Db, Error, Settings};
@@ -137,7 +136,7 @@ impl Db {
         Cache::in_memory(settings).map(Db::of)
     }
 
-    /// Opens the maps on a device, of which one of no bytes is given an empty log. Nobody else writes to it. [`Cache::on_device`] has an
+    /// Opens the maps on a device; one of no bytes is given an empty log. Nobody else may write to the device. See [`Cache::on_device`] for an
     /// example of one.
     ///
     /// ```
@@ -151,7 +150,7 @@ impl Db {
     ///
     /// # Errors
     ///
-    /// As of [`Cache::on_device`].
+    /// As for [`Cache::on_device`].
     pub fn on_device(device: impl Device + 'static, settings: &FileSettings) -> Result<Db, Error> {
         Cache::on_device(device, settings).map(Db::of)
     }
@@ -163,7 +162,7 @@ impl Db {
     }
 }
 
-/// The maps that lie on the pages of a cache, which is open already.
+/// Gives access to the maps on the pages of a cache that is already open.
 ///
 /// ```
 /// use dilluvas::{Cache, Db, Error, Settings};

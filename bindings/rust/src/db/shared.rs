@@ -23,13 +23,13 @@ pub struct Shared {
 /// What the lock is for.
 pub struct Store {
     pub cache: Cache,
-    /// Where calls copy to.
+    /// The buffer that calls copy into.
     pub room: Vec<u8>,
     /// When the cache is rewritten.
     pub space: Space,
 }
 
-/// The store, which no other thread has.
+/// The store, locked by this thread.
 pub struct Locked<'a> {
     // it is let go behind the holder
     store: MutexGuard<'a, Store>,
@@ -51,8 +51,8 @@ impl Shared {
 
     /// Waits for the lock.
     ///
-    /// A thread that has it is told [`Reentrant`](Error::Reentrant). A child that was forked while another thread had it would wait for ever,
-    /// as that thread isn't there, and is told [`Held`](Error::Held).
+    /// Fails with [`Reentrant`](Error::Reentrant) if this thread has it. A child that was forked while another thread had it would wait
+    /// forever, as that thread doesn't exist in the child: the call fails with [`Held`](Error::Held) there.
     pub fn lock(&self) -> Result<Locked<'_>, Error> {
         let this = this_thread();
         if self.holder.load(Ordering::Relaxed) == this {

@@ -4,15 +4,20 @@ use super::Db;
 use crate::cache::Cache;
 use crate::error::Error;
 
-/// When a [`Db::flush`] rewrites the file, as [`Db::compact`] does: where the file has so many times the bytes that its pages take, and
-/// lies between two lengths.
+/// When a [`Db::flush`] rewrites the file: once it has `times` as many bytes as its pages take, and its length is between two bounds.
 ///
-/// What was pending is durable before, and a rewriting that fails leaves the answer of the flush as it is. It is tried again once the file
-/// has grown by half. How much the pages take is looked at each time that the file has grown by an eighth.
+/// The flush makes everything durable first, and a rewriting that fails leaves the result of the flush as it is: [`Db::rewriting_failure`]
+/// returns why. It is tried again once the file has grown by half. How much the pages take is looked at each time that the file has grown by an
+/// eighth.
 ///
-/// Whoever flushes waits for the rewriting, and so does each other call. On a machine of four cores that had other work, a million keys of 8
-/// bytes with values of 8, in a file of 113 MB, took 0.6 seconds and 155 MB of memory; the new file had 19 MB. A hundred thousand in one of
-/// 17 MB took a tenth of a second, and 31 MB.
+/// The file is rewritten step by step, a part at each flush, which takes some milliseconds. A step also does 4 bytes of work for each byte that
+/// the file grew by since the last one, so that it comes to an end. The records that make the pages are copied to a new file beside the old
+/// one, `FILE.dilluvas-new`, which takes its place once it has all of them. Neither file is in memory: there are 16 bytes for each page, and 16
+/// for each link. The last step opens the new file and syncs it. Dropping the last [`Db`] of the file, [`Db::compact`] and a full disk end a
+/// rewriting that was begun, and remove the new file.
+///
+/// [`Db::compact`] is proved; the steps are tested. Before the new file takes its place the library opens it, and has to find as many bytes of
+/// pages in it as in the old one.
 ///
 /// ```
 /// use dilluvas::{CompactAt, Db};
@@ -38,12 +43,14 @@ use crate::error::Error;
 /// ```
 #[derive(Clone, Copy, Debug, PartialEq, Eq)]
 pub struct CompactAt {
-    /// So many times the bytes that the pages take: at least 2, which is taken for what is less.
+    /// How many times the bytes that the pages take: at least 2, and a smaller number counts as 2.
     pub times: u64,
-    /// A file of fewer bytes stays as it is.
+    /// A shorter file stays as it is.
     pub least: u64,
-    /// A file of more bytes stays as it is, since a rewriting may take twice as much memory.
+    /// A longer file stays as it is.
     pub most: u64,
+    /// About how many bytes one flush reads and writes for it, or 0: one flush does all of it, as [`Db::compact`] does.
+    pub step: u64,
 }
 
 impl Default for CompactAt {
@@ -51,15 +58,16 @@ impl Default for CompactAt {
         CompactAt {
             times: 4,
             least: 16 << 20,
-            most: 1 << 30,
+            most: u64::MAX,
+            step: 4 << 20,
         }
     }
 }
 
 impl Db {
-    /// Says when a flush rewrites the file, for all clones of this `Db`, until it is opened again: never where that is `None`. Unless it is
-    /// said, it is as by `CompactAt::default()`. In memory and on a device nothing is rewritten but by [`compact`](Db::compact) and
-    /// [`compact_to`](Db::compact_to).
+    /// Sets when a flush rewrites the file, for all clones of this `Db`, until it is opened again: never if that is `None`. The default is
+    /// `CompactAt::default()`. A rewriting that was begun ends, and the new file is removed. In memory and on a device nothing is rewritten but
+    /// by [`compact`](Db::compact) and [`compact_to`](Db::compact_to).
     ///
     /// ```
     /// use dilluvas::{Db, Error};
@@ -75,57 +83,131 @@ impl Db {
     ///
     /// [`Reentrant`](Error::Reentrant), [`Held`](Error::Held) in a child that was forked.
     pub fn set_compact_at(&self, compact_at: Option<CompactAt>) -> Result<(), Error> {
-        self.shared.lock()?.space = Space {
-            compact_at,
-            next_look: 0,
-        };
+        let mut store = self.shared.lock()?;
+        store.space = Space::new(compact_at);
+        store.cache.end_rewriting();
         Ok(())
+    }
+
+    /// Returns why the last rewriting by a [`flush`](Db::flush) failed, or `None` if none has failed since the file was opened, or since a
+    /// rewriting replaced it: one by a flush, [`compact`](Db::compact) or [`compact_to`](Db::compact_to).
+    ///
+    /// The flush itself succeeded: all changes are durable, and the maps are what they were. But the file grows until a rewriting succeeds, so
+    /// a program may look at this after a flush, and tell its user. The rewriting is tried again once the file has grown by half.
+    ///
+    /// The error is that of [`compact`](Db::compact), with the system's error as its [`source`](std::error::Error::source) if there is one.
+    /// Among others: [`DiskFull`](Error::DiskFull) if the disk has too little room to begin, or a change took the room of the new file;
+    /// [`NoAccess`](Error::NoAccess), [`NoFile`](Error::NoFile) and [`Held`](Error::Held) if the folder takes no new file, or the path no
+    /// longer leads to the file; [`LogFull`](Error::LogFull) if so much was changed meanwhile that the new file became too long;
+    /// [`Corruption`](Error::Corruption) if the new file has other pages than the old one, or the old one is damaged;
+    /// [`Write`](Error::Write), which later calls fail with too if the folder couldn't be synced.
+    ///
+    /// A `compact` that fails returns its error and changes nothing here. In memory and on a device this is always `None`.
+    ///
+    /// ```
+    /// use dilluvas::{Db, Error};
+    ///
+    /// fn save(db: &Db) -> Result<(), Error> {
+    ///     db.flush()?;
+    ///     if let Some(error) = db.rewriting_failure()? {
+    ///         eprintln!("all is saved, but the file can't be made shorter: {error}");
+    ///     }
+    ///     Ok(())
+    /// }
+    /// # save(&Db::in_memory()?)?;
+    /// # Ok::<(), Error>(())
+    /// ```
+    ///
+    /// # Errors
+    ///
+    /// [`Reentrant`](Error::Reentrant), [`Held`](Error::Held) in a child that was forked.
+    pub fn rewriting_failure(&self) -> Result<Option<Error>, Error> {
+        Ok(self.shared.lock()?.cache.rewriting_failure())
     }
 }
 
 /// When a cache is rewritten.
 pub struct Space {
     compact_at: Option<CompactAt>,
-    // How long its file is where it is looked at next.
+    // How long its file is when it is looked at next.
     next_look: u64,
+    // How long its file was at the last step of a rewriting.
+    stepped_at: u64,
 }
 
 impl Default for Space {
     fn default() -> Space {
-        Space {
-            compact_at: Some(CompactAt::default()),
-            next_look: 0,
-        }
+        Space::new(Some(CompactAt::default()))
     }
 }
 
 impl Space {
-    /// Rewrites the file of a cache, of which nothing is pending, where it is time to. Whatever fails, the cache goes on, unless it says so
-    /// itself at its next call.
+    fn new(compact_at: Option<CompactAt>) -> Space {
+        Space {
+            compact_at,
+            next_look: 0,
+            stepped_at: 0,
+        }
+    }
+
+    /// Rewrites the file of a cache, of which nothing is pending, or takes a step of that, if it is time to. Whatever fails, the cache goes on,
+    /// unless its next call returns the error.
     pub fn give_back(&mut self, cache: &mut Cache) {
         if let Some(compact_at) = self.compact_at
             && cache.has_file()
+            && let Err(failure) = self.look(compact_at, cache)
         {
-            // the next call tells the error
-            let _ = self.look(compact_at, cache);
+            cache.give_up_rewriting(failure);
         }
     }
 
     fn look(&mut self, compact_at: CompactAt, cache: &mut Cache) -> Result<(), Error> {
-        let CompactAt { times, least, most } = compact_at;
         let size = cache.size()?;
-        if size < self.next_look || !(least..=most).contains(&size) {
-            return Ok(());
+        if !cache.is_rewriting() {
+            let Some(live) = self.live_if_time(compact_at, cache, size)? else {
+                return Ok(());
+            };
+            if compact_at.step == 0 {
+                cache.compact()?;
+                self.look_later(cache.size()?);
+                return Ok(());
+            }
+            cache.begin_rewriting(size, live)?;
+            self.stepped_at = size;
         }
-        if size < cache.live_bytes()?.saturating_mul(times.max(2)) {
-            self.next_look = size.saturating_add(size / 8);
-            return Ok(());
+        // it has to be faster than what is written
+        let grown = size.saturating_sub(self.stepped_at).saturating_mul(4);
+        self.stepped_at = size;
+        if cache.rewrite_step(compact_at.step.saturating_add(grown))? {
+            self.look_later(cache.size()?);
         }
-        // for one that fails
-        self.next_look = size.saturating_add(size / 2);
-        cache.compact()?;
-        let size = cache.size()?;
-        self.next_look = size.saturating_add(size / 2);
         Ok(())
+    }
+
+    // The bytes that the pages take, if a file of so many bytes is to be rewritten. It is looked at again once it has grown by an eighth, or, where a rewriting of it
+    // fails, by half.
+    fn live_if_time(
+        &mut self,
+        compact_at: CompactAt,
+        cache: &mut Cache,
+        size: u64,
+    ) -> Result<Option<u64>, Error> {
+        let CompactAt {
+            times, least, most, ..
+        } = compact_at;
+        if size < self.next_look || !(least..=most).contains(&size) {
+            return Ok(None);
+        }
+        let live = cache.live_bytes()?;
+        if size < live.saturating_mul(times.max(2)) {
+            self.next_look = size.saturating_add(size / 8);
+            return Ok(None);
+        }
+        self.look_later(size);
+        Ok(Some(live))
+    }
+
+    fn look_later(&mut self, size: u64) {
+        self.next_look = size.saturating_add(size / 2);
     }
 }

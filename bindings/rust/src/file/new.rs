@@ -3,6 +3,7 @@
 use super::MOST_TRIES;
 use super::locked::{Locked, is_taken, lock, refusal};
 use crate::error::Error;
+use crate::sys;
 use std::ffi::OsString;
 use std::fs::{self, Metadata, OpenOptions};
 use std::io::{self, ErrorKind};
@@ -54,9 +55,27 @@ impl New {
         Err(is_taken())
     }
 
+    /// Removes what a process left that was killed while it rewrote the file of a path, which the caller has locked. Nobody else would before
+    /// the next rewriting.
+    pub(super) fn take_left_away(path: &Path, own: &Locked) {
+        let is_file = |found: Metadata| found.is_file();
+        if fs::symlink_metadata(name_while_made(path)).is_ok_and(is_file) {
+            // what can't be removed stays, and so does one that a process has locked
+            drop(New::beside(path, Some(own)));
+        }
+    }
+
     /// The file.
     pub(super) fn file(&self) -> Locked {
         self.file.clone()
+    }
+
+    /// Gives it a length, which no process is ended for.
+    pub(super) fn set_len(&self, len: u64) -> io::Result<()> {
+        if len > sys::longest_file() {
+            return Err(ErrorKind::FileTooLarge.into());
+        }
+        self.file.ours()?.set_len(len)
     }
 
     /// Makes it durable, before it has a path: the syncs of who wrote it waited for this one.
@@ -107,9 +126,9 @@ impl New {
         Ok(true)
     }
 
-    // The name may be another file's: a user may have taken the file away.
+    // The name may be another file's: a user may have removed the file. In a child that was forked it is the parent's.
     fn let_go(&self) {
-        if self.file.is_at(&self.name) {
+        if self.file.ours().is_ok() && self.file.is_at(&self.name) {
             // where it stays it is a second name, which whoever makes a file takes away
             let _ = fs::remove_file(&self.name);
         }

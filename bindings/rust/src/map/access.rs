@@ -3,10 +3,10 @@
 use super::calls::Calls;
 use crate::error::Error;
 
-/// What a [`Map`](crate::Map) belongs to: a [`Db`](crate::Db), whose lock each call takes, or a [`DbBatch`](crate::DbBatch), which has taken
-/// it. Nothing else implements it.
+/// What a [`Map`](crate::Map) belongs to: a [`Db`](crate::Db), whose lock each call takes, or a [`DbBatch`](crate::DbBatch), which already
+/// holds it. Nothing else implements it.
 ///
-/// A function over it is for both:
+/// A function that is generic over it works with both:
 ///
 /// ```
 /// use dilluvas::{Access, Db, Error, Map};
@@ -30,6 +30,6 @@ pub trait Access: Clone + Sealed {}
 
 /// What no other crate implements.
 pub trait Sealed {
-    /// Makes calls between which no other thread makes one.
+    /// Makes calls with no call of another thread in between.
     fn with<T>(&self, calls: impl FnOnce(&mut Calls<'_>) -> Result<T, Error>) -> Result<T, Error>;
 }

@@ -19,31 +19,31 @@ use std::ops::Bound;
 /// ```
 pub type Pair = (Vec<u8>, Vec<u8>);
 
-/// A key and its value, where they were copied to.
+/// A key and its value, in the buffer into which they were copied.
 type Borrowed<'a> = (&'a [u8], &'a [u8]);
 
 /// Two bounds of keys.
 pub type Bounds<'a> = (Bound<&'a [u8]>, Bound<&'a [u8]>);
 
-/// The pairs within two bounds that one leaf has, and the key from which the others are, if there are any.
+/// The pairs of one leaf within two bounds, and the key from which the others begin, if there are any.
 pub struct Leaf {
     pub pairs: Vec<Pair>,
     pub rest: Option<Vec<u8>>,
 }
 
-/// How many pairs within two bounds one leaf has, and the same key.
+/// The number of pairs of one leaf within two bounds, and the same key.
 pub struct Counted {
     pub count: usize,
     pub rest: Option<Vec<u8>>,
 }
 
-/// A cache, and the room that its calls copy into.
+/// A cache, and the buffer that its calls copy into.
 pub struct Calls<'a> {
     cache: &'a mut Cache,
     room: &'a mut Vec<u8>,
 }
 
-/// How many bytes of room are made first, and how many are kept from one call to the next at most.
+/// The first size of the buffer, in bytes, and the greatest size that is kept from one call to the next.
 pub const USUAL_ROOM: usize = 4096;
 const MOST_ROOM: usize = 1 << 20;
 
@@ -60,7 +60,7 @@ impl<'a> Calls<'a> {
         self.is_found(|handle, room, needed| handle.map_get(name, key, room, needed))
     }
 
-    /// Whether the key had a value before.
+    /// Returns whether the key had a value before.
     pub fn set(&mut self, name: &[u8], key: &[u8], value: &[u8]) -> Result<bool, Error> {
         let mut had = false;
         let set = |handle: &mut Handle| handle.map_set(name, key, value, &mut had);
@@ -69,7 +69,7 @@ impl<'a> Calls<'a> {
         Ok(had)
     }
 
-    /// Whether the key had a value before.
+    /// Returns whether the key had a value before.
     pub fn delete(&mut self, name: &[u8], key: &[u8]) -> Result<bool, Error> {
         let mut had = false;
         let delete = |handle: &mut Handle| handle.map_del(name, key, &mut had);
@@ -77,7 +77,7 @@ impl<'a> Calls<'a> {
         Ok(had)
     }
 
-    /// Whether the key had the old value, so that it has the new one.
+    /// Returns whether the key had the old value, and so has the new one.
     pub fn swap(
         &mut self,
         name: &[u8],
@@ -129,7 +129,7 @@ impl<'a> Calls<'a> {
         })
     }
 
-    /// Whether there was a map of this name.
+    /// Returns whether there was a map with this name.
     pub fn drop_map(&mut self, name: &[u8]) -> Result<bool, Error> {
         let mut had = false;
         // it frees each page of the map, by a short message
@@ -138,7 +138,7 @@ impl<'a> Calls<'a> {
         Ok(had)
     }
 
-    /// The names of all maps, in their order.
+    /// Returns the names of all maps, in order.
     pub fn names(&mut self) -> Result<Vec<Vec<u8>>, Error> {
         let mut names: Vec<Vec<u8>> = Vec::new();
         loop {

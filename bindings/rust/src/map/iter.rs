@@ -10,15 +10,15 @@ use std::iter::FusedIterator;
 use std::ops::Bound;
 use std::vec;
 
-/// Pairs of a [`Map`] in the order of their keys, from both ends: what [`iter`](Map::iter), [`range`](Map::range) and
-/// [`scan_prefix`](Map::scan_prefix) answer.
+/// An iterator over pairs of a [`Map`], in key order and from both ends: what [`iter`](Map::iter), [`range`](Map::range) and
+/// [`scan_prefix`](Map::scan_prefix) return.
 ///
-/// It holds no lock between two pairs, so the map may be changed meanwhile, by others or by whoever has the iterator. Each key comes once at
-/// most, and in its order, whatever is changed. A pair that is there all along comes. One that is put in, changed or taken out meanwhile
-/// comes as it is, as it was, or not at all: from the front the pairs of a leaf, some 30, are read together, and from the back each is read
-/// for itself.
+/// It holds no lock between two pairs, so the map may change during the iteration, through others or through the code that iterates. Whatever
+/// changes, each key is returned at most once, and in order. A pair that is there throughout is returned. One that is inserted, changed or
+/// removed during the iteration is returned as it is, as it was, or not at all: from the front the pairs of a leaf, some 30, are read together,
+/// and from the back each is read on its own.
 ///
-/// An error comes once, and then nothing more.
+/// An error is returned once, and after it nothing more.
 ///
 /// ```
 /// use dilluvas::{Db, Error, Iter};

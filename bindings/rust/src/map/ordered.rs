@@ -8,7 +8,7 @@ use crate::sys::Side;
 use std::ops::{Bound, RangeBounds};
 
 impl<A: Access> Map<A> {
-    /// The pair with the least key.
+    /// Returns the pair with the least key.
     ///
     /// ```
     /// use dilluvas::{Db, Error};
@@ -24,12 +24,12 @@ impl<A: Access> Map<A> {
     ///
     /// # Errors
     ///
-    /// Those that [`Map`] names.
+    /// Those listed at [`Map`].
     pub fn first(&self) -> Result<Option<Pair>, Error> {
         self.nearest(Side::First)
     }
 
-    /// The pair with the greatest key.
+    /// Returns the pair with the greatest key.
     ///
     /// ```
     /// use dilluvas::{Db, Error};
@@ -46,12 +46,12 @@ impl<A: Access> Map<A> {
     ///
     /// # Errors
     ///
-    /// Those that [`Map`] names.
+    /// Those listed at [`Map`].
     pub fn last(&self) -> Result<Option<Pair>, Error> {
         self.nearest(Side::Last)
     }
 
-    /// Takes the pair with the least key out, which no other thread is given then.
+    /// Removes and returns the pair with the least key. No other thread gets the same pair.
     ///
     /// ```
     /// use dilluvas::{Db, Error};
@@ -67,12 +67,12 @@ impl<A: Access> Map<A> {
     ///
     /// # Errors
     ///
-    /// As of [`delete`](Map::delete).
+    /// As for [`delete`](Map::delete).
     pub fn pop_first(&self) -> Result<Option<Pair>, Error> {
         self.pop(Side::First)
     }
 
-    /// Takes the pair with the greatest key out, which no other thread is given then.
+    /// Removes and returns the pair with the greatest key. No other thread gets the same pair.
     ///
     /// ```
     /// use dilluvas::{Db, Error};
@@ -87,12 +87,12 @@ impl<A: Access> Map<A> {
     ///
     /// # Errors
     ///
-    /// As of [`delete`](Map::delete).
+    /// As for [`delete`](Map::delete).
     pub fn pop_last(&self) -> Result<Option<Pair>, Error> {
         self.pop(Side::Last)
     }
 
-    /// All pairs, in the order of their keys. [`Iter`] says what it gives where the map is changed meanwhile.
+    /// Iterates over all pairs, in key order. [`Iter`] says what it returns if the map changes during the iteration.
     ///
     /// ```
     /// use dilluvas::{Db, Error};
@@ -110,9 +110,9 @@ impl<A: Access> Map<A> {
         Iter::new(self.clone(), Bound::Unbounded, Bound::Unbounded)
     }
 
-    /// The pairs whose keys are in a range, in the order of their keys. There are none where the range ends before it begins.
+    /// Iterates over the pairs whose keys are in a range, in key order. There are none if the range ends before it begins.
     ///
-    /// The type of the keys is to be named where a range doesn't tell it, as one of two [`Bound`]s, or one of references to arrays.
+    /// The type of the keys must be named if the range leaves it open, as with two [`Bound`]s, or with references to arrays.
     ///
     /// ```
     /// use dilluvas::{Db, Error};
@@ -138,7 +138,7 @@ impl<A: Access> Map<A> {
         Iter::new(self.clone(), from, to)
     }
 
-    /// The pairs whose keys begin with these bytes, in the order of their keys.
+    /// Iterates over the pairs whose keys begin with these bytes, in key order.
     ///
     /// ```
     /// use dilluvas::{Db, Error};
@@ -157,10 +157,10 @@ impl<A: Access> Map<A> {
         Iter::new(self.clone(), Bound::Included(prefix), end)
     }
 
-    /// How many pairs there are. It looks at every leaf, of some 30 pairs each.
+    /// Returns the number of pairs. It looks at every leaf, of some 30 pairs each.
     ///
-    /// Others may change the map between two leaves: then each pair that was there all along is counted, and what came or went meanwhile may
-    /// be or not.
+    /// Other threads may change the map between two leaves. Then each pair that was there throughout is counted, and one that was inserted or
+    /// removed in that time may be counted or not.
     ///
     /// ```
     /// use dilluvas::{Db, Error};
@@ -176,7 +176,7 @@ impl<A: Access> Map<A> {
     ///
     /// # Errors
     ///
-    /// Those that [`Map`] names.
+    /// Those listed at [`Map`].
     pub fn len(&self) -> Result<u64, Error> {
         let (mut len, mut from) = (0, Bound::Unbounded);
         loop {
@@ -190,7 +190,7 @@ impl<A: Access> Map<A> {
         }
     }
 
-    /// Whether there is no pair.
+    /// Returns whether there is no pair.
     ///
     /// ```
     /// use dilluvas::{Db, Error};
@@ -205,7 +205,7 @@ impl<A: Access> Map<A> {
     ///
     /// # Errors
     ///
-    /// Those that [`Map`] names.
+    /// Those listed at [`Map`].
     pub fn is_empty(&self) -> Result<bool, Error> {
         self.access.with(|calls| calls.is_empty(&self.name))
     }

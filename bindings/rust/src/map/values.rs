@@ -6,7 +6,7 @@ use crate::error::Error;
 use std::fmt;
 
 impl<A: Access> Map<A> {
-    /// The value of a key.
+    /// Returns the value of a key, or `None` if it has none.
     ///
     /// ```
     /// use dilluvas::{Db, Error};
@@ -21,15 +21,15 @@ impl<A: Access> Map<A> {
     ///
     /// # Errors
     ///
-    /// Those that [`Map`] names.
+    /// Those listed at [`Map`].
     pub fn get(&self, key: impl AsRef<[u8]>) -> Result<Option<Vec<u8>>, Error> {
         let key = key.as_ref();
         self.access
             .with(|calls| calls.get(&self.name, key)?.map(copied).transpose())
     }
 
-    /// Reads the value of a key into a vector, whose memory is used again, and answers whether there is one. Where there is none, and at an
-    /// error, the vector is empty.
+    /// Reads the value of a key into a vector, whose memory is reused, and returns whether there is one. If there is none, and after an error,
+    /// the vector is empty.
     ///
     /// ```
     /// use dilluvas::{Db, Error};
@@ -48,7 +48,7 @@ impl<A: Access> Map<A> {
     ///
     /// # Errors
     ///
-    /// Those that [`Map`] names.
+    /// Those listed at [`Map`].
     pub fn get_into(&self, key: impl AsRef<[u8]>, value: &mut Vec<u8>) -> Result<bool, Error> {
         let key = key.as_ref();
         value.clear();
@@ -63,7 +63,7 @@ impl<A: Access> Map<A> {
         })
     }
 
-    /// Whether a key has a value.
+    /// Returns whether a key has a value.
     ///
     /// ```
     /// use dilluvas::{Db, Error};
@@ -77,14 +77,14 @@ impl<A: Access> Map<A> {
     ///
     /// # Errors
     ///
-    /// Those that [`Map`] names.
+    /// Those listed at [`Map`].
     pub fn contains_key(&self, key: impl AsRef<[u8]>) -> Result<bool, Error> {
         let key = key.as_ref();
         self.access
             .with(|calls| calls.contains_key(&self.name, key))
     }
 
-    /// Gives a key a value, and answers the one that it had.
+    /// Sets the value of a key, and returns the value that it had.
     ///
     /// ```
     /// use dilluvas::{Db, Error};
@@ -98,7 +98,7 @@ impl<A: Access> Map<A> {
     ///
     /// # Errors
     ///
-    /// As of [`set`](Map::set).
+    /// As for [`set`](Map::set).
     pub fn insert(
         &self,
         key: impl AsRef<[u8]>,
@@ -112,7 +112,7 @@ impl<A: Access> Map<A> {
         })
     }
 
-    /// Gives a key a value, and answers whether it had one: [`insert`](Map::insert) reads that, and takes longer.
+    /// Sets the value of a key, and returns whether it had one. [`insert`](Map::insert) also returns the old value, and takes longer.
     ///
     /// ```
     /// use dilluvas::{Db, Error};
@@ -127,15 +127,15 @@ impl<A: Access> Map<A> {
     /// # Errors
     ///
     /// [`KeyTooLong`](Error::KeyTooLong), [`ValueTooLong`](Error::ValueTooLong); [`NameTooLong`](Error::NameTooLong) and
-    /// [`TooManyNames`](Error::TooManyNames) where the map is to be made; [`LogFull`](Error::LogFull), [`PagesUsedUp`](Error::PagesUsedUp),
-    /// [`StampUsedUp`](Error::StampUsedUp); and those that [`Map`] names. No pair is changed then, but a map that was to be made may be
-    /// there, with none.
+    /// [`TooManyNames`](Error::TooManyNames) if the map must be created; [`LogFull`](Error::LogFull), [`PagesUsedUp`](Error::PagesUsedUp),
+    /// [`StampUsedUp`](Error::StampUsedUp); and those listed at [`Map`]. No pair is changed then, but a map that had to be created may be
+    /// there, with no pairs.
     pub fn set(&self, key: impl AsRef<[u8]>, value: impl AsRef<[u8]>) -> Result<bool, Error> {
         let (key, value) = (key.as_ref(), value.as_ref());
         self.access.with(|calls| calls.set(&self.name, key, value))
     }
 
-    /// Takes a key out, and answers the value that it had.
+    /// Removes a key, and returns the value that it had.
     ///
     /// ```
     /// use dilluvas::{Db, Error};
@@ -150,7 +150,7 @@ impl<A: Access> Map<A> {
     ///
     /// # Errors
     ///
-    /// As of [`delete`](Map::delete).
+    /// As for [`delete`](Map::delete).
     pub fn remove(&self, key: impl AsRef<[u8]>) -> Result<Option<Vec<u8>>, Error> {
         let key = key.as_ref();
         self.access.with(|calls| {
@@ -162,7 +162,7 @@ impl<A: Access> Map<A> {
         })
     }
 
-    /// Takes a key out, and answers whether it had a value: [`remove`](Map::remove) reads that, and takes longer.
+    /// Removes a key, and returns whether it had a value. [`remove`](Map::remove) also returns that value, and takes longer.
     ///
     /// ```
     /// use dilluvas::{Db, Error};
@@ -176,14 +176,14 @@ impl<A: Access> Map<A> {
     ///
     /// # Errors
     ///
-    /// [`KeyTooLong`](Error::KeyTooLong), [`LogFull`](Error::LogFull), [`StampUsedUp`](Error::StampUsedUp), and those that [`Map`] names.
+    /// [`KeyTooLong`](Error::KeyTooLong), [`LogFull`](Error::LogFull), [`StampUsedUp`](Error::StampUsedUp), and those listed at [`Map`].
     pub fn delete(&self, key: impl AsRef<[u8]>) -> Result<bool, Error> {
         let key = key.as_ref();
         self.access.with(|calls| calls.delete(&self.name, key))
     }
 
-    /// Gives a key a new value, or takes it out, if it has the old value, or has none where that is `None`. Else the map stays, and what the
-    /// key has comes back in the inner error.
+    /// If the value of a key is `old`, sets it to `new`. Otherwise nothing changes, and the inner error has the current value. As `old`, `None`
+    /// means that the key has no value; as `new`, that the key is removed.
     ///
     /// ```
     /// use dilluvas::{CompareAndSwapError, Db, Error};
@@ -200,7 +200,7 @@ impl<A: Access> Map<A> {
     ///
     /// # Errors
     ///
-    /// As of [`set`](Map::set).
+    /// As for [`set`](Map::set).
     pub fn compare_and_swap(
         &self,
         key: impl AsRef<[u8]>,
@@ -218,7 +218,7 @@ impl<A: Access> Map<A> {
     }
 }
 
-/// Why [`compare_and_swap`](Map::compare_and_swap) left the map as it was: the key has another value than the one that was named.
+/// Why [`compare_and_swap`](Map::compare_and_swap) changed nothing: the key has another value than the expected one.
 ///
 /// ```
 /// use dilluvas::{CompareAndSwapError, Db, Error};
@@ -244,7 +244,7 @@ impl<A: Access> Map<A> {
 /// ```
 #[derive(Clone, Debug, PartialEq, Eq)]
 pub struct CompareAndSwapError {
-    /// The value that the key has, or none.
+    /// The value that the key has, or `None`.
     pub current: Option<Vec<u8>>,
 }
 

@@ -3,7 +3,7 @@
 use super::Handle;
 use std::ops::Bound;
 
-/// What is told of a part of a map beside its pairs.
+/// What the library reports of a part of a map, besides its pairs.
 #[repr(C)]
 #[derive(Default)]
 pub struct Piece {
@@ -13,7 +13,7 @@ pub struct Piece {
     pub more: bool,
 }
 
-/// Which pair is the nearest to a key.
+/// Which pair to find: the nearest to a key on one side, or the first or last.
 #[derive(Clone, Copy)]
 pub enum Side<'a> {
     Below(&'a [u8]),

@@ -50,6 +50,7 @@ fn open(path: &Path) -> Db {
         times: 2,
         least: 1 << 14,
         most: u64::MAX,
+        step: 1 << 14,
     };
     db.set_compact_at(Some(compact_at)).unwrap();
     db

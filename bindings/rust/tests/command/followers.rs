@@ -45,7 +45,10 @@ fn an_older_copy_is_given_what_it_lacks() {
     // one that is open is left alone
     let _db = Db::open(other).unwrap();
     let line = store.run(&["copy", other]).refused(3);
-    assert!(line.contains("another process has the file open"), "{line}");
+    assert!(
+        line.contains("the file is open in another process"),
+        "{line}"
+    );
 }
 
 #[test]

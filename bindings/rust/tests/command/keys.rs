@@ -97,7 +97,7 @@ fn a_file_that_is_held_is_left_alone() {
     for words in rows {
         let line = store.run(words).refused(3);
         assert!(
-            line.ends_with("another process has the file open"),
+            line.ends_with("the file is open in another process, or already open in this one"),
             "{line}"
         );
     }

@@ -100,7 +100,7 @@ fn a_dump_is_loaded_into_the_map_that_is_named() {
     let plain = "VERSION=3\nformat=bytevalue\ntype=btree\nmapsize=1048576\nHEADER=END\n 6b\n 00fF\nDATA=END\n";
     let line = other.with_input(&["load"], plain.as_bytes()).refused(3);
     assert!(
-        line.contains("line 5 of the input: a MAP is wanted"),
+        line.contains("line 5 of the input: a MAP is required"),
         "{line}"
     );
     other.with_input(&["load", "m"], plain.as_bytes()).done();
@@ -116,8 +116,8 @@ fn a_text_that_is_refused_changes_nothing() {
     let head = "VERSION=3\nformat=print\ndatabase=m\ntype=btree\nHEADER=END\n";
     let many: String = (0..3000).map(|key| format!(" {key}\n value\n")).collect();
     let rows = [
-        ("VERSION=2\n".to_owned(), 1, "VERSION=3 is wanted"),
-        ("\n".to_owned(), 1, "VERSION=3 is wanted"),
+        ("VERSION=2\n".to_owned(), 1, "a dump begins with VERSION=3"),
+        ("\n".to_owned(), 1, "a dump begins with VERSION=3"),
         ("VERSION=3".to_owned(), 1, "the line is cut off"),
         ("VERSION=3\nformat=text\n".to_owned(), 2, "the format is"),
         ("VERSION=3\ntype=hash\n".to_owned(), 2, "the type is"),
@@ -154,7 +154,7 @@ fn a_text_that_is_refused_changes_nothing() {
         (
             format!("{head}{many}DATA=END\nDATA=END\n"),
             6007,
-            "VERSION=3 is wanted",
+            "a dump begins with VERSION=3",
         ),
         (
             format!(

@@ -125,7 +125,7 @@ fn a_call_that_would_wait_for_itself_is_told() -> Result<(), Error> {
     let other = Db::in_memory()?;
     db.batch(|_| other.map("m").set("k", "v"))?;
     let text = Error::Reentrant.to_string();
-    assert!(text.contains("within a batch") && Error::Reentrant.status() == 0);
+    assert!(text.contains("use the maps of the batch") && Error::Reentrant.status() == 0);
     Ok(())
 }
 

@@ -3,7 +3,7 @@
 use crate::folder::Folder;
 use crate::seed::Seed;
 use crate::{Pairs, contents};
-use dilluvas::{Access, Db, Error, FileSettings, Map, Settings};
+use dilluvas::{Access, CompactAt, Db, Error, FileSettings, Map, Settings};
 use std::collections::BTreeMap;
 use std::ops::Bound;
 
@@ -162,10 +162,26 @@ fn call_in_batch(db: &Db, model: &mut Model, seed: &mut Seed) {
     assert_eq!(answer.is_err(), is_refused);
 }
 
-fn run(mut db: Db, open: impl Fn(Db) -> Db, seed: &mut Seed, calls: u32) {
+fn run(db: Db, open: impl Fn(Db) -> Db, seed: &mut Seed, calls: u32) {
+    run_with(db, open, seed, calls, false);
+}
+
+// The same with a flush each few calls, and seldom another opening.
+fn run_flushing(db: Db, open: impl Fn(Db) -> Db, seed: &mut Seed, calls: u32) {
+    run_with(db, open, seed, calls, true);
+}
+
+fn run_with(mut db: Db, open: impl Fn(Db) -> Db, seed: &mut Seed, calls: u32, often_flushed: bool) {
     let mut model = Model::new();
-    for _ in 0..calls {
-        match seed.below(100) {
+    for call in 0..calls {
+        if often_flushed && call % 3 == 0 {
+            db.flush().unwrap();
+        }
+        let kind = seed.below(100);
+        if often_flushed && kind > 97 && seed.below(5) > 0 {
+            continue;
+        }
+        match kind {
             0..90 => call_some(|name| db.map(name), &mut model, seed),
             90..95 => call_in_batch(&db, &mut model, seed),
             95 => {
@@ -194,12 +210,41 @@ fn files_answer_as_sorted_maps_do() {
             idgen_persist_interval: 3,
             segment_size: 16 << (2 * store),
         };
+        let open = || Db::open_with(folder.file(), &settings).unwrap();
         let again = |db| {
             drop(db);
-            Db::open_with(folder.file(), &settings).unwrap()
+            open()
         };
-        let db = Db::open_with(folder.file(), &settings).unwrap();
-        run(db, again, &mut Seed(store), 2_000);
+        run(open(), again, &mut Seed(store), 2_000);
+    }
+}
+
+// Flushes rewrite them, at once or step by step.
+#[test]
+fn files_that_are_rewritten_answer_as_sorted_maps_do() {
+    for (store, step) in [0, 1, 3000, 20_000, u64::MAX].into_iter().enumerate() {
+        let folder = Folder::in_memory(&format!("lists-rewritten-{store}"));
+        let settings = FileSettings {
+            cache_capacity: [256, 4096][store % 2],
+            idgen_persist_interval: 3,
+            segment_size: 256,
+        };
+        let compact_at = CompactAt {
+            times: 2,
+            least: 0,
+            most: u64::MAX,
+            step,
+        };
+        let open = || {
+            let db = Db::open_with(folder.file(), &settings).unwrap();
+            db.set_compact_at(Some(compact_at)).unwrap();
+            db
+        };
+        let again = |db| {
+            drop(db);
+            open()
+        };
+        run_flushing(open(), again, &mut Seed(store as u64), 4_000);
     }
 }
 

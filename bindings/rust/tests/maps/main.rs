@@ -14,6 +14,7 @@ mod refused;
 #[path = "../seed/mod.rs"]
 mod seed;
 mod space;
+mod steps;
 mod threads;
 mod values;
 

@@ -1,7 +1,7 @@
 //! Files that are rewritten by flushes.
 
 use crate::folder::Folder;
-use dilluvas::{CompactAt, Db};
+use dilluvas::{CompactAt, Db, Error};
 use std::fs;
 
 const KEYS: u32 = 1000;
@@ -41,8 +41,8 @@ fn len_of(folder: &Folder) -> u64 {
 fn a_file_stays_short_however_often_it_is_changed() {
     let folder = Folder::in_memory("maps-space");
     let db = Db::open(folder.file()).unwrap();
-    // what is written between two flushes comes on top: 250 values, and the pages that they lie on
-    let most = CompactAt::default().least + (8 << 20);
+    // what is written until all steps are taken comes on top
+    let most = CompactAt::default().least + (16 << 20);
     let mut longest = 0;
     for round in 0..100 {
         overwrite(&db, round);
@@ -56,14 +56,22 @@ fn a_file_stays_short_however_often_it_is_changed() {
     assert_eq!(fs::read_dir(folder.path()).unwrap().count(), 1);
 }
 
+// At once, and in steps, which leave the changes of pages as they are: those of a byte work only for what was written.
 #[test]
 fn a_file_is_rewritten_at_so_many_times_its_pages() {
-    let folder = Folder::in_memory("maps-space-times");
+    for (step, most) in [(0, 5), (1, 16), (100_000, 16), (u64::MAX, 16)] {
+        stays_below(step, most);
+    }
+}
+
+fn stays_below(step: u64, most: u64) {
+    let folder = Folder::in_memory(&format!("maps-space-times-{step}"));
     let db = Db::open(folder.file()).unwrap();
     let compact_at = CompactAt {
         times: 3,
         least: 0,
         most: u64::MAX,
+        step,
     };
     db.set_compact_at(Some(compact_at)).unwrap();
     overwrite(&db, 0);
@@ -72,14 +80,25 @@ fn a_file_is_rewritten_at_so_many_times_its_pages() {
     for round in 1..30 {
         overwrite(&db, round);
         // it is looked at by the eighth, and some is written between two flushes
-        assert!(len_of(&folder) < 5 * live, "{} of {live}", len_of(&folder));
+        assert!(
+            len_of(&folder) < most * live,
+            "{} of {live}, step {step}",
+            len_of(&folder)
+        );
         check(&db, round);
     }
 }
 
 #[test]
 fn what_is_turned_off_or_out_of_bounds_rewrites_nothing() {
-    let at = |times, least, most| Some(CompactAt { times, least, most });
+    let at = |times, least, most| {
+        Some(CompactAt {
+            times,
+            least,
+            most,
+            ..CompactAt::default()
+        })
+    };
     for (name, compact_at) in [
         ("none", None),
         ("least", at(2, u64::MAX, u64::MAX)),
@@ -104,12 +123,18 @@ fn what_is_turned_off_or_out_of_bounds_rewrites_nothing() {
 
 #[test]
 fn a_rewriting_that_fails_leaves_the_flush_and_is_tried_again() {
-    let folder = Folder::in_memory("maps-space-failing");
+    fails_and_is_tried_again(0);
+    fails_and_is_tried_again(10_000);
+}
+
+fn fails_and_is_tried_again(step: u64) {
+    let folder = Folder::in_memory(&format!("maps-space-failing-{step}"));
     let db = Db::open(folder.file()).unwrap();
     let compact_at = CompactAt {
         times: 2,
         least: 0,
         most: u64::MAX,
+        step,
     };
     db.set_compact_at(Some(compact_at)).unwrap();
     // no file can be made by the other name
@@ -121,12 +146,16 @@ fn a_rewriting_that_fails_leaves_the_flush_and_is_tried_again() {
     }
     let long = len_of(&folder);
     assert!(long > 6 * u64::from(KEYS) * VALUE as u64);
+    assert_eq!(db.rewriting_failure(), Ok(Some(Error::NoFile)));
     fs::remove_dir(&other).unwrap();
-    for round in 6..12 {
+    for round in 6..15 {
         overwrite(&db, round);
         check(&db, round);
     }
-    assert!(len_of(&folder) < long / 2);
+    assert_eq!(db.rewriting_failure(), Ok(None));
+    // steps leave the changes of pages as they are
+    let most = if step == 0 { long / 2 } else { long };
+    assert!(len_of(&folder) < most);
     drop(db);
-    check(&Db::open(folder.file()).unwrap(), 11);
+    check(&Db::open(folder.file()).unwrap(), 14);
 }

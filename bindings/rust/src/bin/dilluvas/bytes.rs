@@ -1,5 +1,5 @@
-//! Bytes as text: what is printable in ASCII as it is, but for the backslash, and any other byte as a backslash and two hexadecimal digits.
-//! A backslash before a backslash is read as one.
+//! Bytes as text: each printable ASCII byte except the backslash as it is, and any other byte as a backslash and two hexadecimal digits. Two
+//! backslashes are read as one.
 
 use std::io::{self, Write};
 use std::os::unix::ffi::OsStrExt;
@@ -29,7 +29,7 @@ pub fn text_of(bytes: &[u8]) -> String {
     String::from_utf8_lossy(&text).into_owned()
 }
 
-/// A path in one line: that of most is itself.
+/// A path in one line: most paths are unchanged.
 pub fn text_of_path(path: &Path) -> String {
     match path.to_str() {
         Some(text) if !text.contains(char::is_control) => text.to_owned(),
@@ -37,7 +37,7 @@ pub fn text_of_path(path: &Path) -> String {
     }
 }
 
-/// The bytes of a text, or none where a backslash has neither two hexadecimal digits nor another one behind it. Any other byte is itself.
+/// The bytes of a text, or `None` if a backslash is followed by neither two hexadecimal digits nor another backslash. Any other byte is itself.
 pub fn bytes_of(text: &[u8]) -> Option<Vec<u8>> {
     let mut bytes = Vec::with_capacity(text.len());
     let mut rest = text;
@@ -59,7 +59,7 @@ pub fn bytes_of(text: &[u8]) -> Option<Vec<u8>> {
     Some(bytes)
 }
 
-/// The bytes of pairs of hexadecimal digits, or none where the text is no such pairs.
+/// The bytes of pairs of hexadecimal digits, or `None` if the text has anything else.
 pub fn bytes_of_digits(text: &[u8]) -> Option<Vec<u8>> {
     let (pairs, []) = text.as_chunks::<2>() else {
         return None;

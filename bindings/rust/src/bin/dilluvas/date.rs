@@ -4,7 +4,7 @@ use std::time::{SystemTime, UNIX_EPOCH};
 
 const DAY: u64 = 86_400;
 
-/// A moment in UTC, as `2026-01-31 23:59:59 UTC`. One before 1970 is that moment.
+/// A time in UTC, as `2026-01-31 23:59:59 UTC`. A time before 1970 is shown as the start of 1970.
 pub fn date_of(time: SystemTime) -> String {
     let seconds = time
         .duration_since(UNIX_EPOCH)

@@ -5,14 +5,14 @@ use std::error::Error as _;
 use std::fmt;
 use std::io;
 
-/// What a command that was made has to say.
+/// The result of a command that was carried out.
 pub enum Outcome {
     Done,
     /// What was asked for isn't there, or a part of the file is damaged.
     Absent,
 }
 
-/// Why a command was not made.
+/// Why a command failed.
 pub enum Failure {
     /// The store refused a call.
     Store(Error),
@@ -20,11 +20,11 @@ pub enum Failure {
     Input(io::Error),
     /// The output can't be written.
     Output(io::Error),
-    /// A line of the input is none of a dump.
+    /// A line of the input is not one of a dump: its number, and why.
     Line(u64, &'static str),
-    /// There is no map of a name, whose text this is.
+    /// There is no map with this name.
     NoMap(String),
-    /// The file to which another one is copied, whose text this is.
+    /// The target of a copy, by its path, failed with this error.
     To(String, Error),
 }
 

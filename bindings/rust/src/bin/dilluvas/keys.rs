@@ -20,7 +20,7 @@ pub fn get(file: &Path, map: &[u8], key: &[u8]) -> Result<Outcome, Failure> {
     Ok(Outcome::Done)
 }
 
-/// Gives a key a value, and makes that durable.
+/// Sets the value of a key, durably.
 pub fn set(file: &Path, map: &[u8], key: &[u8], value: Value) -> Result<Outcome, Failure> {
     // the input may take long, so it is read before the file is held
     let value = match value {
@@ -33,7 +33,7 @@ pub fn set(file: &Path, map: &[u8], key: &[u8], value: Value) -> Result<Outcome,
     Ok(Outcome::Done)
 }
 
-/// Takes a key out, and makes that durable.
+/// Deletes a key, durably.
 pub fn delete(file: &Path, map: &[u8], key: &[u8]) -> Result<Outcome, Failure> {
     let db = store::open_existing(file)?;
     if !db.map(map).delete(key)? {
@@ -43,7 +43,7 @@ pub fn delete(file: &Path, map: &[u8], key: &[u8]) -> Result<Outcome, Failure> {
     Ok(Outcome::Done)
 }
 
-/// Lists the pairs of a map from a key on and below another one.
+/// Lists the pairs of a map with keys from `from` to below `to`.
 pub fn scan(
     file: &Path,
     map: &[u8],
@@ -82,7 +82,7 @@ pub fn check_map(db: &Db, map: &[u8]) -> Result<(), Failure> {
     }
 }
 
-/// Standard output, of which much is written at once.
+/// Standard output with a buffer.
 pub fn output() -> BufWriter<StdoutLock<'static>> {
     BufWriter::with_capacity(1 << 16, io::stdout().lock())
 }

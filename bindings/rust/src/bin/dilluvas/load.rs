@@ -9,8 +9,8 @@ use std::io::{self, BufRead, BufReader};
 use std::path::Path;
 use std::process;
 
-/// Puts the pairs of a text into the maps that it names, or all into one, and makes them durable. They are one batch: where the text is
-/// refused, or the process is killed, nothing of them is there.
+/// Loads the pairs of a text into the maps that it names, or all into one, and makes them durable. They are one batch: if the text is refused,
+/// or the process is killed, none of them is there.
 pub fn load(file: &Path, map: Option<Vec<u8>>) -> Result<Outcome, Failure> {
     let mut text = Text::new(BufReader::with_capacity(1 << 16, io::stdin().lock()));
     // what is no dump at all makes no file, and holds none while it is waited for
@@ -44,7 +44,7 @@ fn load_into<R: BufRead>(
         let name = match (into, &header.name) {
             (Some(name), _) => name,
             (None, Some(name)) => name,
-            (None, None) => return Err(text.refusal("a MAP is wanted, as the dump names none")),
+            (None, None) => return Err(text.refusal("a MAP is required, as the dump names none")),
         };
         load_section(&batch.map(name), text, |_| {
             keys += 1;

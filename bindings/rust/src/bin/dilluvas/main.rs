@@ -46,7 +46,7 @@ fn main() -> ExitCode {
             (why, file)
         }),
         Err(why) => {
-            eprintln!("dilluvas: {why} (dilluvas --help tells the words)");
+            eprintln!("dilluvas: {why} (see dilluvas --help)");
             return ExitCode::from(WORDS);
         }
     };

@@ -1,4 +1,4 @@
-//! How far long work is, on standard error, where that is a terminal.
+//! The progress of long work, on standard error if that is a terminal.
 
 use std::io::{self, IsTerminal, Write};
 use std::time::{Duration, Instant};
@@ -6,7 +6,7 @@ use std::time::{Duration, Instant};
 // What is quicker shows nothing, and no line comes sooner behind another one.
 const PAUSE: Duration = Duration::from_millis(250);
 
-/// A line that is written over, and is gone where this is dropped.
+/// A line that is overwritten, and is cleared when this is dropped.
 pub struct Progress {
     what: &'static str,
     // Of how many, where that is known.
@@ -27,7 +27,7 @@ impl Progress {
         }
     }
 
-    /// That so many are done.
+    /// Shows that `done` are done.
     pub fn tell(&mut self, done: u64) {
         if !self.is_terminal || self.last.elapsed() < PAUSE {
             return;
@@ -40,7 +40,7 @@ impl Progress {
         write_over(&line);
     }
 
-    /// Shows at once what is being done, of which nobody tells how far it is.
+    /// Shows at once what is being done, for work without a count.
     pub fn begin(&mut self) {
         if self.is_terminal {
             self.is_shown = true;

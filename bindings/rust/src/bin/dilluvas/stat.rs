@@ -19,7 +19,7 @@ struct Counts {
     value_bytes: u64,
 }
 
-/// Tells what a file holds, and how much that takes.
+/// Shows what a file holds, and how much space that takes.
 pub fn stat(file: &Path) -> Result<Outcome, Failure> {
     let mut cache = store::open_pages(file)?;
     let (bytes, live) = (cache.size()?, cache.live_bytes()?);

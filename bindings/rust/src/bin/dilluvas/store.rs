@@ -12,17 +12,17 @@ const SETTINGS: FileSettings = FileSettings {
     segment_size: 1 << 20,
 };
 
-/// The maps of a file that is there.
+/// Opens the maps of an existing file.
 pub fn open_existing(file: &Path) -> Result<Db, Failure> {
     Ok(Db::open_existing_with(file, &SETTINGS)?)
 }
 
-/// The maps of a file, which is made where it is absent.
+/// Opens the maps of a file, which is created if it is missing or empty.
 pub fn open_or_make(file: &Path) -> Result<Db, Failure> {
     Ok(Db::open_with(file, &SETTINGS)?)
 }
 
-/// The pages of a file that is there.
+/// Opens the pages of an existing file.
 pub fn open_pages(file: &Path) -> Result<Cache, Failure> {
     Ok(Cache::open_existing(file, &SETTINGS)?)
 }

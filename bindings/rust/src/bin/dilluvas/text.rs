@@ -5,6 +5,8 @@ use crate::failure::Failure;
 use dilluvas::Pair;
 use std::io::BufRead;
 
+const NO_DIGITS: &str = "a backslash is not followed by two hexadecimal digits";
+
 /// How the bytes of keys and values are written.
 #[derive(Clone, Copy)]
 enum Format {
@@ -22,7 +24,7 @@ pub struct Text<R> {
     format: Format,
 }
 
-/// What the header of a section tells.
+/// The header of a section.
 pub struct Header {
     /// The name of the map, if it has one.
     pub name: Option<Vec<u8>>,
@@ -43,13 +45,13 @@ impl<R: BufRead> Text<R> {
         Failure::Line(self.number, why)
     }
 
-    /// Reads the header of the next section, or answers none where there is no more text.
+    /// Reads the header of the next section, or returns `None` at the end of the text.
     pub fn next_header(&mut self) -> Result<Option<Header>, Failure> {
         if !self.next_line()? {
             return Ok(None);
         }
         if self.line != b"VERSION=3" {
-            return Err(self.refusal("VERSION=3 is wanted, which begins a dump"));
+            return Err(self.refusal("a dump begins with VERSION=3"));
         }
         let mut header = Header { name: None };
         self.format = Format::Digits;
@@ -76,7 +78,7 @@ impl<R: BufRead> Text<R> {
             (b"type", _) => return Err(self.refusal("the type is btree")),
             (b"database", name) => match bytes_of(name) {
                 Some(name) => header.name = Some(name),
-                None => return Err(self.refusal("a backslash has no two digits behind it")),
+                None => return Err(self.refusal(NO_DIGITS)),
             },
             (b"dupsort" | b"duplicates" | b"integerkey" | b"reversekey" | b"recnum", b"0") => {}
             (b"dupsort" | b"duplicates", _) => {
@@ -91,7 +93,7 @@ impl<R: BufRead> Text<R> {
         Ok(())
     }
 
-    /// Reads the next pair of a section, or answers none at its end.
+    /// Reads the next pair of a section, or returns `None` at its end.
     pub fn next_pair(&mut self) -> Result<Option<Pair>, Failure> {
         let Some(key) = self.next_bytes()? else {
             return Ok(None);
@@ -113,7 +115,7 @@ impl<R: BufRead> Text<R> {
             return Err(self.refusal("a key or a value begins with a space"));
         };
         let (bytes, why) = match self.format {
-            Format::Print => (bytes_of(text), "a backslash has no two digits behind it"),
+            Format::Print => (bytes_of(text), NO_DIGITS),
             Format::Digits => (bytes_of_digits(text), "two hexadecimal digits are a byte"),
         };
         bytes.map(Some).ok_or_else(|| self.refusal(why))

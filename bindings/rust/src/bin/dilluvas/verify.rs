@@ -17,7 +17,7 @@ const FIRST: u64 = 2;
 // A page has a message in the file, which has so many bytes and those of what it holds.
 const LEAST_MESSAGE: u64 = 17;
 
-/// Reads every page and then every map, and names what is damaged.
+/// Reads every page and then every map, and reports what is damaged.
 pub fn verify(file: &Path) -> Result<Outcome, Failure> {
     let mut cache = match store::open_pages(file) {
         Err(Failure::Store(Error::Corruption)) if is_begun(file) => {
@@ -54,13 +54,13 @@ pub fn verify(file: &Path) -> Result<Outcome, Failure> {
     tell(pages, keys, &damaged)
 }
 
-/// How many pages a file of so many bytes has at most: the number of each page is below that of those that were made.
+/// The greatest number of pages in a file of `bytes` bytes. Each page number is below the number of pages that were made.
 pub fn most_pages(bytes: u64) -> u64 {
     bytes / LEAST_MESSAGE
 }
 
-/// Reads each page of a cache whose log has so many bytes, and hands its number on with what was answered, until that is answered by an
-/// error.
+/// Reads each page of a cache whose log has `bytes` bytes, and calls `on_page` with its number and the result of reading it, until that returns
+/// an error.
 pub fn each_page(
     cache: &mut Cache,
     bytes: u64,

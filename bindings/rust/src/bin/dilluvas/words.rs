@@ -1,4 +1,4 @@
-//! The words of the command.
+//! The arguments of the command.
 
 use crate::bytes;
 use std::ffi::{OsStr, OsString};
@@ -10,35 +10,36 @@ pub const HELP: &str = "\
 usage: dilluvas FILE COMMAND
 
   get MAP KEY           write the value of a key, as it is
-  set MAP KEY VALUE     give a key a value; VALUE - is read from standard input
-  del MAP KEY           take a key out
-  scan MAP [FROM [TO]]  list pairs by their keys, from FROM on and below TO:
-                        each is a line with the key, a tab and the value
+  set MAP KEY VALUE     set the value of a key; VALUE - is read from standard
+                        input
+  del MAP KEY           delete a key
+  scan MAP [FROM [TO]]  list the pairs with keys from FROM to below TO, in key
+                        order: one line each, with the key, a tab and the value
   maps                  list the names of the maps
-  stat                  tell what the file holds, and how much that takes
-  verify                read every page and every map, and name what is damaged
-  compact               rewrite the file without what later changes made needless
-  copy TO               copy what is flushed to the file TO, which isn't there or
-                        is an older copy; another process may have FILE open
-  dump [MAP]            write a map, or all maps, as text
-  load [MAP]            put what dump wrote into the maps: all of it, or nothing
+  stat                  show what FILE holds, and how much space that takes
+  verify                read every page and map, and report what is damaged
+  compact               rewrite FILE without what later changes made obsolete
+  copy TO               copy what is flushed to the new file TO, or to an older
+                        copy; another process may have FILE open
+  dump [MAP]            write one map, or all, as text
+  load [MAP]            load what dump wrote into the maps: all or nothing
 
-set and load make FILE where it is absent; the others need one.
-In MAP, KEY, VALUE, FROM and TO, and in what is listed, \\xx is the byte of two
-hexadecimal digits, and \\\\ in what is given is one backslash.
+set and load create FILE if it is missing or empty; the others need one.
+In MAP, KEY, VALUE, FROM and TO, and in listings, \\xx is the byte with these two
+hexadecimal digits; in an argument \\\\ is one backslash.
 
-exit status: 0 done; 1 absent, or for verify: damaged; 2 wrong words;
-3 an error, which a line on standard error names
+exit status: 0 done; 1 absent, or for verify: damaged; 2 invalid arguments;
+3 an error, reported in one line on standard error
 ";
 
-/// What the words ask for.
+/// What the arguments ask for.
 pub enum Request {
     Help,
     Version,
     Run { file: PathBuf, command: Command },
 }
 
-/// What is done with a file.
+/// What to do with a file.
 pub enum Command {
     Get {
         map: Vec<u8>,
@@ -73,17 +74,17 @@ pub enum Command {
     },
 }
 
-/// A value that is to be set.
+/// The value to set.
 pub enum Value {
     Given(Vec<u8>),
     StandardInput,
 }
 
-/// What words ask for, or why they are none.
+/// Parses the arguments, or returns why they are invalid.
 pub fn parse(words: impl Iterator<Item = OsString>) -> Result<Request, String> {
     let words: Vec<OsString> = words.collect();
     let Some((file, rest)) = words.split_first() else {
-        return Err("a FILE and a COMMAND are wanted".to_owned());
+        return Err("a FILE and a COMMAND are required".to_owned());
     };
     match file.as_bytes() {
         b"--help" | b"-h" => return alone(rest, Request::Help),
@@ -93,13 +94,13 @@ pub fn parse(words: impl Iterator<Item = OsString>) -> Result<Request, String> {
         [b'-', ..] => {
             let name = bytes::text_of(file.as_bytes());
             return Err(format!(
-                "{name} is no option; a file of that name is ./{name}"
+                "{name} is not an option; for a file of that name write ./{name}"
             ));
         }
         _ => {}
     }
     let Some((command, rest)) = rest.split_first() else {
-        return Err("a COMMAND is wanted behind FILE".to_owned());
+        return Err("a COMMAND is required after FILE".to_owned());
     };
     let file = PathBuf::from(file);
     let command = command_of(command, rest)?;
@@ -109,7 +110,7 @@ pub fn parse(words: impl Iterator<Item = OsString>) -> Result<Request, String> {
 fn alone(rest: &[OsString], request: Request) -> Result<Request, String> {
     match rest {
         [] => Ok(request),
-        _ => Err("nothing stands behind that option".to_owned()),
+        _ => Err("this option takes no arguments".to_owned()),
     }
 }
 
@@ -160,12 +161,12 @@ fn refusal_of(command: &[u8]) -> String {
         b"get" | b"del" => "MAP KEY",
         b"set" => "MAP KEY VALUE",
         b"scan" => "MAP [FROM [TO]]",
-        b"maps" | b"stat" | b"verify" | b"compact" => "nothing",
+        b"maps" | b"stat" | b"verify" | b"compact" => "no arguments",
         b"copy" => "TO",
         b"dump" | b"load" => "[MAP]",
-        _ => return format!("{} is no command", bytes::text_of(command)),
+        _ => return format!("{} is not a command", bytes::text_of(command)),
     };
-    format!("behind {} stands {wanted}", bytes::text_of(command))
+    format!("{} takes {wanted}", bytes::text_of(command))
 }
 
 fn bytes_of(word: &OsString) -> Result<Vec<u8>, String> {
@@ -175,7 +176,7 @@ fn bytes_of(word: &OsString) -> Result<Vec<u8>, String> {
             .chars()
             .map(|c| if c.is_control() { '?' } else { c })
             .collect();
-        format!("in {word} a backslash has no two hexadecimal digits behind it")
+        format!("in {word} a backslash is not followed by two hexadecimal digits")
     })
 }
 
