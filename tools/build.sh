@@ -176,7 +176,7 @@ build() {
     # shellcheck disable=SC2086 # several sums
     set -- $sums
     for crate in $todo; do
-        tools/built.sh note "$crate" "$(product "$crate")" "$1" || fail "sources of $crate have changed meanwhile, or there is no room to note that it was built"
+        tools/built.sh note "$crate" "$(product "$crate")" "$1" || fail "sources of $crate changed during the build, or there is no room to note that it was built"
         shift
     done
 }

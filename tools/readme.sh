@@ -10,13 +10,15 @@
 #   tools/scripts/file.rows; and a crew is one of tools/scripts.sh;
 # - each other command of a session is there;
 # - the minutes by crate of README's section 'Build it' are those of the table of docs/dev/GATE.md, and each crate of the program and of the
-#   library for other languages has its row;
+#   library for other languages has its row, and the sums that README names are those of its rows;
 # - each program of crates/example_* has its session in examples/README.md, with what it writes (its file stdout, which the gate
 #   compares with its runs), and each block of code there stands in a source or a proof of one of them;
-# - each file of a crate's specs has its line in docs/dev/SPECS.md;
+# - each file of a crate's specs has its line in docs/dev/SPECS.md, with the first comment of the file;
 # - docs/KEYS.md, and each session of `./dilluvas` in README, is as tools/keys.sh wants it;
-# - docs/API.md is what tools/api.sh prints;
+# - docs/API.md is what tools/api.sh prints, and docs/dev/PROOF_MAP.md what tools/proof_map.sh does;
+# - the pages of `worded` below have no phrase of tools/words.txt, outside code and the targets of links;
 # - tools/vendor.sh, as the guide calls it, copies the libraries as they are, changes nothing at a second call, and refuses one that differs;
+# - the packages of cargo and pip have the project's own LICENSE (a copy, since `rt ci` takes no tree with a link in it);
 # - each relative link of a page leads to a file that is there, and to a heading of it, and each page of docs or bench that a source or a
 #   script names is there.
 #
@@ -218,6 +220,11 @@ minutes_of() {
     ' "$2" | LC_ALL=C sort
 }
 
+# The minutes of the crates on standard input together, rounded.
+sum_of() {
+    awk 'NR == FNR { minutes[$1] = $2; next } { sum += minutes[$1] } END { printf "%.0f", sum }' "$work/minutes" -
+}
+
 compare_minutes() {
     minutes_of '## Build it' README.md 3 >"$work/minutes"
     minutes_of '## Budget' docs/dev/GATE.md 3 >"$work/cells"
@@ -225,6 +232,10 @@ compare_minutes() {
     cut -d ' ' -f 1 "$work/minutes" | cmp -s - "$work/built" || differ "the rows of 'Build it' are not the crates that are built"
     LC_ALL=C comm -23 "$work/minutes" "$work/cells" >"$work/diff"
     [ ! -s "$work/diff" ] || differ "minutes of 'Build it' are not those of docs/dev/GATE.md: $(tr '\n' ';' <"$work/diff")"
+    all=$(sum_of <"$work/minutes")
+    for part in "$(tools/sum.sh --crates sled_c | sum_of) of the $all processor minutes" "$(tools/release/libraries.sh | sum_of) of the $all minutes"; do
+        grep -qF "$part" README.md || differ "by the rows of 'Build it' it is $part"
+    done
 }
 
 # Whether the lines of the file $1 stand in the file $2, one after another.
@@ -273,9 +284,20 @@ compare_definitions() {
     for file in crates/*/specs/*.antt crates/*/specs/*/*.antt; do
         case $file in
         */Lib.antt) ;;
-        *) grep -qF "(../../$file)" docs/dev/SPECS.md || differ "docs/dev/SPECS.md has no line for $file" ;;
+        *) echo "$file" ;;
         esac
-    done
+    done >"$work/definitions"
+    # shellcheck disable=SC2046 # no path has a space
+    awk '
+        FNR == 1 { first = 1 }
+        !/^-- / { first = 0 }
+        first { text[FILENAME] = text[FILENAME] (FNR == 1 ? "" : " ") substr($0, 4) }
+        END { for (file in text) print "(../../" file ") | " text[file] " |" }
+    ' $(cat "$work/definitions") >"$work/first_comments"
+    while read -r file; do
+        line=$(grep -F "(../../$file) |" "$work/first_comments") || line="(../../$file) |"
+        grep -qF "$line" docs/dev/SPECS.md || differ "docs/dev/SPECS.md has no line for $file with its first comment"
+    done <"$work/definitions"
 }
 
 # docs/api/page.md is a part of docs/API.md, and its links are of that page.
@@ -299,6 +321,13 @@ compare_named_pages() {
     while IFS=: read -r page file; do
         [ -e "$file" ] || [ -e "${page%/*}/$file" ] || differ "it names $file, which isn't there"
     done <"$work/named"
+}
+
+compare_proof_map() {
+    page=docs/dev/PROOF_MAP.md
+    tools/proof_map.sh | diff "$page" - >"$work/diff" && return
+    differ 'it (<) differs from what tools/proof_map.sh prints (>):'
+    cat "$work/diff"
 }
 
 compare_calls() {
@@ -327,6 +356,47 @@ compare_vendor() {
         differ 'it copies beside a library that has other files'
 }
 
+compare_licences() {
+    for page in bindings/rust/LICENSE bindings/python/LICENSE; do
+        cmp -s LICENSE "$page" || differ 'it is not a copy of LICENSE'
+    done
+    page=.
+    find . -path ./.git -prune -o -name out -prune -o -name target -prune -o -type l -print >"$work/links"
+    [ ! -s "$work/links" ] || differ "a link stands in the tree: $(head -n 1 "$work/links")"
+}
+
+# The pages that are held to tools/words.txt: a page is added once it has none of these phrases.
+worded='README.md docs/README.md docs/GUIDE.md docs/KEYS.md docs/SCRIPT.md docs/DIFFERENCES.md docs/ARCHITECTURE.md'
+worded="$worded docs/BINDINGS.md docs/COMMAND.md docs/BACKUP.md docs/FORMAT.md docs/PROOFS.md docs/BENCHMARKS.md docs/SPACE.md docs/SCALE.md"
+worded="$worded examples/README.md bindings/README.md bindings/rust/README.md bindings/python/README.md bindings/replicated/README.md"
+worded="$worded docs/API.md CHANGELOG.md CONTRIBUTING.md SECURITY.md"
+
+# Prints PAGE:LINE: PHRASE for each phrase of tools/words.txt on these pages.
+compare_words() {
+    # shellcheck disable=SC2086 # several pages
+    awk '
+        NR == FNR { sub(/ *#.*/, ""); if ($0 != "") phrases = phrases (phrases == "" ? "" : "|") $0; next }
+        FNR == 1 { inside = 0 }
+        /^ *```/ { inside = !inside; next }
+        inside { next }
+        {
+            # each line begins a sentence
+            rest = ". " tolower($0) " "
+            gsub(/[.;|]/, " &", rest)
+            gsub(/`[^`]*`/, "`", rest)
+            gsub(/\]\([^)]*\)/, "]", rest)
+            while (match(rest, "[^a-z](" phrases ")[^a-z]")) {
+                phrase = substr(rest, RSTART + 1, RLENGTH - 2)
+                sub(/^[^a-z]*/, "", phrase)
+                print FILENAME ":" FNR ": " phrase
+                rest = substr(rest, RSTART + RLENGTH - 1)
+            }
+        }
+    ' tools/words.txt $worded >"$work/words"
+    [ ! -s "$work/words" ] || status=1
+    cat "$work/words"
+}
+
 rows_of memory
 rows_of file
 cut_page README.md docs/GUIDE.md
@@ -344,8 +414,11 @@ cut_page docs/SCRIPT.md
 compare_sessions
 tell_faults
 compare_calls
+compare_proof_map
 compare_vendor
+compare_licences
 compare_links
 compare_named_pages
+compare_words
 tools/keys.sh || status=1
 exit $status

@@ -1,6 +1,8 @@
 #!/bin/sh
 # Unpacks the archive of a release into an empty folder, with no toolchain on the PATH, and uses it as a user would: its sums are right, the
-# program answers a script, and README's three programs, in C, Rust and Python, are built against it and run. It says what isn't there.
+# programs answer scripts, the man page is there, and README's three programs, in C, Rust and Python, are built against it and run. cargo
+# makes a package of the crate and builds it, pkg-config finds the library, and pip installs the wheel, which says of itself what it has to.
+# It says which tool isn't there.
 #
 #     tools/released.sh ARCHIVE
 #
@@ -51,6 +53,7 @@ in_c() {
     says C 'lime = green'
     if command -v pkg-config >/dev/null; then
         export PKG_CONFIG_PATH="$to/lib/pkgconfig"
+        [ "$(pkg-config --modversion dilluvas)" = "$version" ] || fail 'pkg-config tells another version'
         # shellcheck disable=SC2046 # several words
         "${CC:-cc}" -o readme "$top/bindings/c/readme.c" "$(pkg-config --variable=file_c dilluvas)" $(pkg-config --cflags --libs dilluvas)
         LD_LIBRARY_PATH=$to/lib ./readme >said
@@ -64,6 +67,27 @@ in_rust() {
     printf '[package]\nname = "program"\nversion = "0.0.0"\nedition = "2024"\n\n[dependencies]\ndilluvas = { path = "%s/rust" }\n' "$to" >program/Cargo.toml
     CARGO_TARGET_DIR=$work/target cargo run -q --offline --manifest-path program/Cargo.toml >said
     says Rust "$both"
+    DILLUVAS_LIB_DIR=$to/lib CARGO_TARGET_DIR=$work/target cargo package -q --offline --manifest-path "$to/rust/Cargo.toml" ||
+        fail 'cargo makes no package of the crate, or its package does not build'
+    tried="$tried cargo-package"
+}
+
+# What the installed package in a folder says of itself.
+has_metadata() {
+    python3 - "$1" "$version" <<'PROGRAM'
+import sys
+from importlib.metadata import Distribution
+
+folder, version = sys.argv[1:]
+(found,) = Distribution.discover(name="dilluvas", path=[folder])
+said = found.metadata
+assert found.version == version, found.version
+assert said["License-Expression"] == "Apache-2.0 OR MIT" and said["Requires-Python"] == ">=3.10" and said["Summary"], said.items()
+assert "Typing :: Typed" in said.get_all("Classifier"), said.items()
+assert said["Description-Content-Type"] == "text/markdown" and "import dilluvas\n" in said.get_payload(), said.get_payload()
+there = {str(file) for file in found.files if file.locate().is_file()}
+assert {"dilluvas/py.typed", f"dilluvas-{version}.dist-info/licenses/LICENSE"} <= there, there
+PROGRAM
 }
 
 in_python() {
@@ -74,6 +98,7 @@ in_python() {
         python3 -m pip install -q --no-cache-dir --no-index --no-deps --disable-pip-version-check --root-user-action ignore --target installed "$to"/python/dilluvas-*.whl
         PYTHONPATH=$work/installed python3 "$top/bindings/python/readme.py" >said
         says pip "$both"
+        has_metadata installed || fail 'the installed package says otherwise of itself'
     fi
 }
 
@@ -83,6 +108,8 @@ unset DILLUVAS_SO DILLUVAS_LIB_DIR
 ! command -v rt >/dev/null || fail "the toolchain's command is still on the PATH"
 tar -xzf "$archive"
 to=$work/$(basename "$archive" .tar.gz)
+version=${to##*/dilluvas-}
+version=${version%-x86_64-linux}
 (cd "$to" && sha256sum --quiet --strict -c SUMS) || fail 'its sums are wrong'
 grep -Eq '^sledpc sources=[0-9a-f]{64} (logic=proved |kept: )' "$to/PROVED" || fail 'PROVED has no line of the program'
 
@@ -94,8 +121,10 @@ printf 'set fruit lime green\nflush\n' | "$to/bin/dilluvas" fruit.maps >said
 [ "$(echo 'get fruit lime' | "$to/bin/dilluvas" fruit.maps)" = 'value green' ] || fail 'a pair that was flushed is not there'
 if [ -x "$to/libexec/dilluvas/command" ]; then
     [ "$("$to/bin/dilluvas" fruit.maps get fruit lime)" = green ] || fail 'the command does not find the pair'
+    [ "$("$to/bin/dilluvas" -V)" = "dilluvas $version" ] || fail 'the command tells another version'
 fi
 
+[ -s "$to/share/man/man1/dilluvas.1" ] || fail 'there is no man page'
 tried=' the program'
 for tool in "${CC:-cc}" cargo python3; do
     if ! command -v "$tool" >/dev/null; then

@@ -1,7 +1,7 @@
 #!/bin/sh
-# Runs a program from a checkout: the proved one, where tools/build.sh or ./check has built it of the sources that stand here, by the
-# toolchain that is on the PATH. Else `rt try` builds the sources with no proof and lets them answer, which takes half a minute to a minute
-# each time, and one line on standard error says so.
+# Runs a program from a checkout: the proved one, where tools/build.sh or ./check has built it from the sources that are here, with the
+# toolchain that is on the PATH. Otherwise `rt try` builds and runs the sources without a proof, which takes half a minute to a minute each
+# time, and one line on standard error says so.
 #
 #     tools/run.sh PROGRAM [WORD..]
 #
@@ -70,25 +70,25 @@ reads_script() {
     esac
 }
 
-# Runs it by `rt try`, which hands on what comes of standard input within two seconds, and prints at the end: so all of it is read before.
-# It runs in a folder of its own, with a copy of each file that is named from the crate on: one of the user's is named by its whole path, and
-# is changed itself, by the one run that a program with arguments gets.
+# Runs it by `rt try`, which passes to the program only what comes on standard input within two seconds, and prints at the end: so all input
+# is read first. `rt try` runs it in a folder of its own, with a copy of each file whose path starts at the crate. A file of the user is named
+# by its whole path, and so is changed itself, by the one run that a program with arguments gets.
 try() {
-    work=$(mktemp -d) || fail 'there is no folder for a try: set TMPDIR to one that can be written'
+    work=$(mktemp -d) || fail 'no temporary folder could be made: set TMPDIR to a folder that can be written'
     trap 'rm -rf "$work"' EXIT
     trap 'exit 1' HUP INT PIPE TERM
     : >"$work/input"
     stands=
     if names_file "$@"; then
-        stands='. What it has flushed is in the file'
+        stands='. Everything that it flushed is in the file'
         case ${2-$1} in
         '' | /*) ;;
         *) set -- ${2+"$1"} "$PWD/${2-$1}" ;;
         esac
     fi
     if reads_script "$@"; then
-        cat >"$work/input" || fail "the script could not be kept in $work"
-        [ "$(wc -c <"$work/input")" -lt 67108864 ] || fail 'a try takes a script of less than 64 MiB: run tools/build.sh for more'
+        cat >"$work/input" || fail "the script could not be written to $work"
+        [ "$(wc -c <"$work/input")" -lt 67108864 ] || fail 'without a proof a script must be shorter than 64 MiB: run tools/build.sh, whose program has no such limit'
     fi
     (cd "$crate" && rt try --seconds 600 -- "$@") <"$work/input" >"$work/output" 2>"$work/said" || :
     last=$(tail -n 1 "$work/said")
@@ -96,7 +96,7 @@ try() {
     'run=ended status='*) ;;
     *)
         grep -v -e '^| ' -e '^the end of ' -e '^interpreter: ' -e '^races: ' "$work/said" | tail -n 20 >&2 || :
-        fail 'the try gave no answer: it has ten minutes, 1 MiB of output and the room in TMPDIR, and the program that tools/build.sh makes has no such bounds'"$stands"
+        fail 'the run did not finish: without a proof it is limited to ten minutes, 1 MiB of output and the room in TMPDIR. The program that tools/build.sh builds has no such limits'"$stands"
         ;;
     esac
     cat "$work/output" || exit 1
@@ -108,10 +108,10 @@ try() {
 
 if ! (is_untouched) && ! "$top/tools/built.sh" is "$program" "$program"; then
     command -v rt >/dev/null ||
-        fail "no proved program stands here, and the toolchain's command rt is not on the PATH: README.md says under 'First look' where a release and the toolchain come from"
-    say 'nothing of this was proved on this machine yet, which tools/build.sh does: the sources are tried, and answer in a minute'
+        fail "there is no proved program here, and the toolchain's command rt is not on the PATH: README.md says under 'First look' where to get a release or the toolchain"
+    say 'these sources are not proved on this machine yet (run tools/build.sh for that): this run builds them without a proof, in about a minute'
     try "$@"
 fi
-# where what it prints passes the limit on the size of files, that is a write error and no signal
+# output beyond the limit on the size of files is a write error, not a signal
 trap '' XFSZ 2>/dev/null || :
 exec "$binary" "$@"
