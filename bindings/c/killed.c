@@ -1,7 +1,8 @@
-/* Kills a process that writes a file and rewrites it, at a random moment, and opens the file again: what was said to be flushed is there, of a
- * batch all or nothing, and no id comes twice. A batch is written as ten frames and more. Of four processes one ends itself before a random
- * call of the system in a rewriting, one before a random call in the steps of one, and one before a random call in a batch. Linked with --wrap=pwrite, --wrap=fdatasync, --wrap=fsync and
- * --wrap=rename. Usage: killed FOLDER TIMES, in which it makes its file. */
+/* Kills a process that writes a file and rewrites it, and opens the file again: what was said to be flushed is there, of a batch all or
+ * nothing, and no id comes twice. A batch is written as ten frames and more. Of four processes one is killed at a random moment, and the
+ * others end themselves before a call of the system: one in a rewriting, one in the steps of one, and one in a batch. Before each kind of
+ * call some end, and behind ever more calls of that kind. Linked with --wrap=pwrite, --wrap=fdatasync, --wrap=fsync and --wrap=rename.
+ * Usage: killed FOLDER TIMES, in which it makes its file. */
 #define _DEFAULT_SOURCE
 #include "dilluvas_file.h"
 #include <fcntl.h>
@@ -22,7 +23,7 @@
     } while (0)
 
 /* A round changes each page, by 29 bytes or more, which is ten segments, or one for those that end in a rewriting: that makes so few calls. */
-enum { PAGES = 60, CALLS_IN_A_BATCH = 44, CALLS_IN_A_REWRITING = 16, CALLS_IN_STEPS = 40, CALLS_IN_ONE_STEP = 18 };
+enum { PAGES = 60 };
 
 static const dilluvas_file_settings short_segments = {1024, 10, 160}, long_segments = {1024, 10, 2048};
 
@@ -45,11 +46,12 @@ enum way { IS_KILLED, ENDS_IN_REWRITING, ENDS_IN_STEPS, ENDS_IN_BATCH, WAYS };
 
 static enum way way;
 
-/* Where a process says what it does, while it does that in which it ends, and before which call it ends. */
-static int teller = -1, ends_at = -1;
+/* Where a process says what it does, while it does that in which it ends; before which call it ends, and how many such calls it makes first. */
+static int teller = -1, calls_before;
+static enum call ends_before;
 
 static void may_end(enum call call) {
-    if (teller < 0 || ends_at-- > 0) return;
+    if (teller < 0 || call != ends_before || calls_before-- > 0) return;
     told last = {0, call};
     CHECK(write(teller, &last, sizeof last) == sizeof last);
     kill(getpid(), SIGKILL);
@@ -147,7 +149,8 @@ static void write_rounds(int to) {
         if (made % 3 == 2 && way != ENDS_IN_STEPS) {
             if (way == ENDS_IN_REWRITING) teller = to;
             CHECK(dilluvas_file_compact(&file) == DILLUVAS_OK);
-            ends_at = way == ENDS_IN_REWRITING ? 0 : ends_at;
+            ends_before = way == ENDS_IN_REWRITING ? END : ends_before;
+            calls_before = way == ENDS_IN_REWRITING ? 0 : calls_before;
             may_end(END);
             teller = -1;
         }
@@ -159,13 +162,20 @@ static void write_rounds(int to) {
     }
 }
 
-/* Before each call, how many processes ended in a rewriting, and in a batch. */
+/* Before each call, how many processes ended in a rewriting, in the steps of one, and in a batch. */
 static unsigned long ended[WAYS][CALLS];
 
-/* Before each call of the one step or of the several ones that a rewriting takes, in turn. */
-static void ends_in_step(int number) {
-    if (number % 2) in_steps.step = UINT64_MAX;
-    ends_at = number / 2 % (number % 2 ? CALLS_IN_ONE_STEP : CALLS_IN_STEPS);
+/* Before which call the process of that turn ends: each in turn, and most often before a write. A rewriting that makes fewer calls than are to
+ * come first ends behind it; steps and batches come until there were as many. Every second rewriting in steps is of one step. */
+static void choose_end(unsigned turn) {
+    static const enum call turns[WAYS][6] = {[ENDS_IN_REWRITING] = {WRITE, SYNC, RENAME, SYNC_FOLDER, END, WRITE},
+                                             [ENDS_IN_STEPS] = {WRITE, SYNC, RENAME, SYNC_FOLDER, WRITE, WRITE},
+                                             [ENDS_IN_BATCH] = {WRITE, SYNC, WRITE, WRITE, WRITE, WRITE}};
+    unsigned before = turn / 6;
+    if (way == ENDS_IN_STEPS && turn % 2 == before % 2) in_steps.step = UINT64_MAX;
+    ends_before = turns[way][turn % 6];
+    if (ends_before == WRITE) calls_before = (int)(way == ENDS_IN_REWRITING ? before % 6 : before + (turn % 6 < 5 ? 0 : 13));
+    else calls_before = ends_before == SYNC ? (int)before % 4 : 0;
 }
 
 /* Lets a process write for a while, and kills it, or lets it end itself, and takes what it told last. */
@@ -178,9 +188,7 @@ static void kill_one(int number, told *last, unsigned long *rounds) {
     CHECK(child >= 0);
     if (child == 0) {
         close(ends[0]);
-        srand((unsigned)getpid());
-        ends_at = rand() % (way == ENDS_IN_BATCH ? CALLS_IN_A_BATCH : CALLS_IN_A_REWRITING);
-        if (way == ENDS_IN_STEPS) ends_in_step(number / WAYS);
+        if (way != IS_KILLED) choose_end((unsigned)number / WAYS);
         write_rounds(ends[1]);
     }
     close(ends[1]);
@@ -219,8 +227,8 @@ static uint64_t bytes_in_file(void) {
 /* The bytes of the frame that says of a batch that it was abandoned. */
 enum { ABANDONING = 34 };
 
-/* How many files ended in a batch, and beside how many a new one was left. */
-static unsigned long abandoned, left;
+/* How many files ended in a batch, by how their process ended, and beside how many a new one was left. */
+static unsigned long abandoned[WAYS], left;
 
 /* Opens the file: how many of the pages are at which round. */
 static void compare(const told *last) {
@@ -230,7 +238,7 @@ static void compare(const told *last) {
     CHECK(dilluvas_file_open(&file, path, &short_segments) == DILLUVAS_OK);
     CHECK(access(other, F_OK) != 0);
     CHECK(bytes_in_file() == before || bytes_in_file() == before + ABANDONING || last->round == 0);
-    abandoned += bytes_in_file() == before + ABANDONING;
+    abandoned[way] += bytes_in_file() == before + ABANDONING;
     for (uint64_t page = 2; page < PAGES + 2; page++) {
         dilluvas_status status = get_round(&file, page, &stamp, &found);
         CHECK(status == DILLUVAS_OK || status == DILLUVAS_NONE || (status == DILLUVAS_GONE && last->round == 0));
@@ -267,7 +275,7 @@ int main(int count, char **arguments) {
            "left\n", in[WRITE], in[SYNC], in[RENAME], in[SYNC_FOLDER], left);
     CHECK(times < 300 || (in[WRITE] && in[SYNC] && in[RENAME] && in[SYNC_FOLDER] && left));
     in = ended[ENDS_IN_BATCH];
-    printf("in a batch %lu before a write and %lu before a sync; %lu files ended in a batch\n", in[WRITE], in[SYNC], abandoned);
-    CHECK(times < 300 || (in[WRITE] && in[SYNC] && abandoned > in[WRITE]));
+    printf("in a batch %lu before a write and %lu before a sync; %lu files ended in a batch\n", in[WRITE], in[SYNC], abandoned[ENDS_IN_BATCH]);
+    CHECK(times < 300 || (in[WRITE] && in[SYNC] && 2 * abandoned[ENDS_IN_BATCH] > in[WRITE]));
     return 0;
 }
