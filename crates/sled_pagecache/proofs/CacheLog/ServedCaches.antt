@@ -25,7 +25,7 @@ module _ {L : Type 0} (g : Ghosts L) where
   stays-seen inside seen new is stays = subst (λ (cache : Cache L). StaysALog g cache.log new) is stays
 
   pub settled-over : (next : ℕ) (config : Config) (recovered : Bool) (old : StickyLog L) (log : L) (pages : List Page) (free : List ℕ) (accesses : Accesses) → StaysALog g old.log log
-      → IsSettled g next config recovered old pages free accesses → IsSettled g next config recovered (record { log = log; fault = old.fault; batch = old.batch }) pages free accesses
+      → IsSettled g next config recovered old pages free accesses → IsSettled g next config recovered (record old { log = log }) pages free accesses
   settled-over next config recovered old log pages free accesses stays settled =
       let whole = settled.whole in
       let was = whole.consistent in

@@ -1,11 +1,16 @@
 -- What is promised of a page where its message was written to the log, where the log refused it, and where none was told to it.
-use Rattle.sled_pagecache.proofs.Names.{Appended, ◌≡◌, ◌≢◌, ◌<◌, ◌+◌, ℕ, true, false, List, [], ◌∷◌, length, refl, ◌∙◌, subst, inl, Ok, Err, Refusal, OutOfMemory, Why, LogFull, Change, Update, Put, Message, Messages, effect_of, effect_of_entry, now, IsLeft, unplaced_state, IsUpdate, message_of, head_size, Ghosts, StickyLog, Accesses, CacheInfo, Page, PageContent, chain_at, Went, Went-none, IsCaused-handed_on, IsOfLog, WasAccessed, IsTouched, capped_size, CanPut, content_of, WritesMessage, Wrote, WritesMap, RefusesAppend, arith}
+use Rattle.sled_pagecache.proofs.Names.{Appended, ◌≡◌, ◌≢◌, ◌<◌, ◌+◌, ℕ, true, false, List, [], ◌∷◌, length, refl, ◌∙◌, subst, inl, Ok, Err, Refusal, OutOfMemory, Why, LogFull, Change, Update, Put, Message, Messages, effect_of, effect_of_entry, now, IsLeft, unplaced_state, IsUpdate, message_of, head_size, Ghosts, StickyLog, Accesses, CacheInfo, Page, PageContent, chain_at, Went, Went-none, IsCaused-handed_on, IsOfLog, WasAccessed, IsTouched, capped_size, CanPut, content_of, WritesMessage, Wrote, WritesMap, RefusesAppend, arith, Result, Token, pid_of, stamp_of, token}
 use Rattle.sled_base.specs.declared.types.Refusal.TheVariants.{Unsupported}
 use Rattle.sled_pagecache.proofs.Links.LinkedChains.{begun-handed}
 use Rattle.sled_pagecache.proofs.Sizes.ChainSizes.{size-alone}
 use Rattle.sled_pagecache.proofs.Table.SwappedChains.{at-page, other-pages, put-chains, kept-put}
 
 module _ {L : Type 0} (g : Ghosts L) where
+  -- what is written where the page gets a token is written on its page, at its stamp
+  pub writes-at : {old new : StickyLog L} {pid stamp : ℕ} {given : Token} {m : Message} {result : Result CacheInfo Refusal} → given ≡ token pid stamp
+      → WritesMessage g old new (pid_of given) m (stamp_of given) result → WritesMessage g old new pid m stamp result
+  writes-at {old} {new} {m = m} {result = result} is = subst (λ t. WritesMessage g old new (pid_of t) m (stamp_of t) result) is
+
   -- ---- nothing was told to the log
 
   module _ {old : StickyLog L} (clear : old.fault ≡ false) (usable : (g.state old.log).usable ≡ true)

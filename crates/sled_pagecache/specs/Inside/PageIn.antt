@@ -98,7 +98,7 @@ pub record PullsPage {L : Type 0} (g : Ghosts L) (old : StickyLog L) (pid : ℕ)
 
 -- the log of a cache, with its sticky write error
 abbrev pub sticky_log_of : {L : Type 0} → Cache L → StickyLog L
-sticky_log_of cache = record { log = cache.log; fault = cache.fault; batch = cache.batch }
+sticky_log_of cache = record { alloc = record { memory = record { seal = tt } }; log = cache.log; fault = cache.fault; batch = cache.batch }
 
 -- Why a page isn't read: it is the cache's own, or it isn't free and its node can't be read from the log.
 abbrev pub RefusesReading : Chain → ℕ → Refusal → Type 0

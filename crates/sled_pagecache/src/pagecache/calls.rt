@@ -56,7 +56,6 @@ use std::marker::Model;
 /// pages by their recent use, and the log.
 #[derive(Drop)]
 pub struct PageCache<L: Log> {
-    alloc: Global,
     config: Config,
     recovered: bool,
     next: u128,
@@ -126,13 +125,13 @@ impl<L: Log> PageCache<L> {
             return Err((Error::OutOfMemory, log));
         };
         let mut sticky_log = StickyLog {
+            alloc,
             log,
             fault: false,
             batch: false,
         };
-        match open(alloc, config, &mut sticky_log) {
+        match open(config, &mut sticky_log) {
             Ok(opening) => Ok(PageCache {
-                alloc,
                 config,
                 recovered: opening.recovered,
                 next: opening.next,
@@ -232,7 +231,7 @@ impl<L: Log> PageCache<L> {
 
     // What the cache allocates by.
     pub(crate) fn alloc(&self) -> Global {
-        self.alloc
+        self.sticky_log.alloc
     }
 
     // Every cache lists what lies in memory. Nothing is done.

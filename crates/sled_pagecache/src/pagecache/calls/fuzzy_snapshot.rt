@@ -33,7 +33,7 @@ impl<L: Log> PageCache<L> {
         Ok(Snapshot {
             stable_lsn: Some(self.sticky_log.log.stable_offset()),
             active_segment: None,
-            pt: states_of(self.alloc, &self.pages)?,
+            pt: states_of(self.sticky_log.alloc, &self.pages)?,
         })
     }
 }

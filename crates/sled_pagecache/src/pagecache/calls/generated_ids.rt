@@ -81,7 +81,7 @@ impl<L: Log> PageCache<L> {
         }
         let (log, accesses) = (&mut self.sticky_log, &mut self.accesses);
         let page = self.pages.get_mut(COUNTER_PID);
-        match put_counter(self.alloc, log, accesses, page, start) {
+        match put_counter(log, accesses, page, start) {
             Ok(()) => {
                 self.next += 1;
                 evict(&mut self.pages, &mut self.accesses, None);

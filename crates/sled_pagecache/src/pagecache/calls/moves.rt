@@ -37,7 +37,7 @@ impl<L: Log> PageCache<L> {
         }
         let (log, accesses) = (&mut self.sticky_log, &mut self.accesses);
         let page = self.pages.get_mut(pid);
-        let moved = move_page(self.alloc, log, accesses, pid, page);
+        let moved = move_page(log, accesses, pid, page);
         end_move(&mut self.pages, &mut self.accesses, pid, moved)
     }
 }

@@ -48,7 +48,7 @@ impl<L: Log> PageCache<L> {
         if let Some(root) = view.meta().get_root(name) {
             return Ok(root);
         }
-        let copy = IVec::from_slice(self.alloc, name)?;
+        let copy = IVec::from_slice(self.sticky_log.alloc, name)?;
         Err(Error::CollectionNotFound(copy))
     }
 
@@ -88,7 +88,7 @@ impl<L: Log> PageCache<L> {
         }
         let (log, accesses) = (&mut self.sticky_log, &mut self.accesses);
         let page = self.pages.get_mut(META_PID);
-        match swap_root(self.alloc, log, accesses, page, name, new) {
+        match swap_root(log, accesses, page, name, new) {
             Ok(()) => {
                 evict(&mut self.pages, &mut self.accesses, None);
                 Ok(Ok(()))

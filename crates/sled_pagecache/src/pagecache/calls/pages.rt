@@ -66,11 +66,11 @@ impl<L: Log> PageCache<L> {
         let (log, accesses) = (&mut self.sticky_log, &mut self.accesses);
         let Some(pid) = self.free.greatest() else {
             let token = PageView::new(self.pages.len() as PageId, 1);
-            let added = add_page(self.alloc, log, accesses, &mut self.pages, node);
+            let added = add_page(log, accesses, &mut self.pages, node);
             return end_allocation(&mut self.pages, &mut self.accesses, token, added);
         };
         let page = self.pages.get_mut(pid);
-        let reused = reuse_page(self.alloc, log, accesses, &mut self.free, pid, page, node);
+        let reused = reuse_page(log, accesses, &mut self.free, pid, page, node);
         let token = PageView::new(pid, page.stamp);
         end_allocation(&mut self.pages, &mut self.accesses, token, reused)
     }
@@ -199,7 +199,7 @@ impl<L: Log> PageCache<L> {
         }
         let (log, accesses) = (&mut self.sticky_log, &mut self.accesses);
         let page = self.pages.get_mut(pid);
-        let freed = free_page(self.alloc, log, accesses, &mut self.free, pid, page);
+        let freed = free_page(log, accesses, &mut self.free, pid, page);
         let token = PageView::new(pid, page.stamp);
         end_swap(&mut self.pages, &mut self.accesses, token, freed)
     }
@@ -229,7 +229,7 @@ impl<L: Log> PageCache<L> {
         }
         let (log, accesses) = (&mut self.sticky_log, &mut self.accesses);
         let page = self.pages.get_mut(pid);
-        let read = pull_and_access(self.alloc, log, accesses, pid, page);
+        let read = pull_and_access(log, accesses, pid, page);
         evict(&mut self.pages, &mut self.accesses, None);
         read
     }

@@ -65,11 +65,12 @@ impl<L: Log> PageCache<L> {
             return Err((Error::Unsupported(Why::BatchOpen), into));
         }
         let mut copy = StickyLog {
+            alloc: self.sticky_log.alloc,
             log: into,
             fault: false,
             batch: false,
         };
-        match copy_pages(self.alloc, &mut self.sticky_log, &self.pages, &mut copy) {
+        match copy_pages(&mut self.sticky_log, &self.pages, &mut copy) {
             Ok(()) => Ok(copy.log),
             Err(refusal) => Err((Error::from(refusal), copy.log)),
         }

@@ -43,7 +43,7 @@ impl<L: Log> PageCache<L> {
             return Err(Error::Io(Device::Write));
         }
         let on_disk = self.sticky_log.log.size();
-        let pages = total_rss(self.alloc, &mut self.sticky_log, &self.pages)?;
+        let pages = total_rss(&mut self.sticky_log, &self.pages)?;
         Ok((on_disk, pages + self.config.segment_size as u128))
     }
 

@@ -66,7 +66,7 @@ impl<L: Log> PageCache<L> {
         judge(self.sticky_log.fault, &self.pages, pid, old)?;
         let (log, accesses) = (&mut self.sticky_log, &mut self.accesses);
         let page = self.pages.get_mut(pid);
-        let linked = pull_and_link(self.alloc, log, accesses, pid, page, link);
+        let linked = pull_and_link(log, accesses, pid, page, link);
         let token = PageView::new(pid, page.stamp);
         end_link(&mut self.pages, &mut self.accesses, token, linked)
     }
@@ -101,7 +101,7 @@ impl<L: Log> PageCache<L> {
         }
         let (log, accesses) = (&mut self.sticky_log, &mut self.accesses);
         let page = self.pages.get_mut(pid);
-        let put = put_node(self.alloc, log, accesses, pid, page, node);
+        let put = put_node(log, accesses, pid, page, node);
         let token = PageView::new(pid, page.stamp);
         end_swap(&mut self.pages, &mut self.accesses, token, put)
     }

@@ -18,7 +18,6 @@ use crate::pagecache::table::page_entry::CacheInfo;
 use crate::pagecache::write::sticky_log::StickyLog;
 use sled_base::{PageId, Refusal};
 use sled_log::Log;
-use std::alloc::Global;
 
 // A payload of up to so many bytes takes no memory while it is read.
 pub(crate) const SPACE: usize = 256;
@@ -26,7 +25,6 @@ pub(crate) const SPACE: usize = 256;
 // Reads the node of a page from the log, by one read for each of its messages, in the order of its chain. All are read, so a read that
 // fails is answered where a message before it doesn't belong there, too.
 pub(crate) fn read_node<L: Log>(
-    alloc: Global,
     sticky_log: &mut StickyLog<L>,
     pid: PageId,
     infos: &[CacheInfo],
@@ -52,7 +50,7 @@ pub(crate) fn read_node<L: Log>(
         payload: payload.bytes(&space),
         pointer: first.pointer,
     };
-    let mut made = first_boxed(&found, alloc);
+    let mut made = first_boxed(&found, sticky_log.alloc);
     for info in &infos[1..] {
         let (kind, payload) = sticky_log.read_to(pid, info.lsn, info.pointer, &mut space)?;
         let found = Found {
@@ -60,7 +58,7 @@ pub(crate) fn read_node<L: Log>(
             payload: payload.bytes(&space),
             pointer: info.pointer,
         };
-        made = with_link(made, &found, alloc);
+        made = with_link(made, &found, sticky_log.alloc);
     }
     made
 }

@@ -15,14 +15,12 @@ use crate::pagecache::table::pagetable::PageTable;
 use crate::pagecache::write::sticky_log::StickyLog;
 use sled_base::{PageId, Refusal};
 use sled_log::Log;
-use std::alloc::Global;
 
 // How much a counter takes.
 const COUNTER_BYTES: u64 = 8;
 
 // How much the pages take together. Those that don't lie in memory are read, and stay as they are.
 pub(crate) fn total_rss<L: Log>(
-    alloc: Global,
     sticky_log: &mut StickyLog<L>,
     pages: &PageTable,
 ) -> Result<u128, Refusal>
@@ -42,18 +40,13 @@ pub(crate) fn total_rss<L: Log>(
         let Some(page) = pages.get(pid as PageId) else {
             unreachable!()
         };
-        total += page_rss(alloc, sticky_log, pid as PageId, page)? as u128;
+        total += page_rss(sticky_log, pid as PageId, page)? as u128;
     }
     Ok(total)
 }
 
 // How much a page takes. A node that doesn't lie in memory is read, and let go.
-fn page_rss<L: Log>(
-    alloc: Global,
-    sticky_log: &mut StickyLog<L>,
-    pid: PageId,
-    page: &Page,
-) -> Result<u64, Refusal>
+fn page_rss<L: Log>(sticky_log: &mut StickyLog<L>, pid: PageId, page: &Page) -> Result<u64, Refusal>
     requires ready { IsReady L.Log sticky_log.old }
     requires kept { L.tells → IsKept (chain_at (L.state sticky_log.old.log) pid) page.now }
     ensures read { ReadsLog L.Log sticky_log.old sticky_log.new (messages_to_read page.now) result }
@@ -64,10 +57,12 @@ fn page_rss<L: Log>(
 {
     match &page.kept {
         PageContent::Free => Ok(0),
-        PageContent::OnLog => Ok(read_node(alloc, sticky_log, pid, page.cache_infos())?.rss(alloc)),
+        PageContent::OnLog => Ok(read_node(sticky_log, pid, page.cache_infos())?.rss(
+            sticky_log.alloc,
+        )),
         PageContent::Counter(_) => Ok(COUNTER_BYTES),
         PageContent::Roots(roots) => Ok(roots.as_meta().rss()),
-        PageContent::Node(node) => Ok(node.rss(alloc)),
+        PageContent::Node(node) => Ok(node.rss(sticky_log.alloc)),
     }
 }
 

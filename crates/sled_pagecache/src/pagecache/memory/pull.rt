@@ -21,12 +21,10 @@ use crate::pagecache::write::sticky_log::StickyLog;
 use sled_base::{PageId, Refusal};
 use sled_log::Log;
 use sled_node::Link;
-use std::alloc::Global;
 
 // Reads the node of a page from the log, unless what the page holds lies in memory. A refusal leaves the page.
 #[inline(always)]
 pub(crate) fn pull<L: Log>(
-    alloc: Global,
     sticky_log: &mut StickyLog<L>,
     pid: PageId,
     page: &mut Page,
@@ -37,7 +35,7 @@ pub(crate) fn pull<L: Log>(
     ensures is_there { is_resident page.old.kept ≡ true → IsOk result }
 {
     if let PageContent::OnLog = page.kept {
-        page.kept = PageContent::Node(read_node(alloc, sticky_log, pid, page.cache_infos())?);
+        page.kept = PageContent::Node(read_node(sticky_log, pid, page.cache_infos())?);
     }
     Ok(())
 }
@@ -45,7 +43,6 @@ pub(crate) fn pull<L: Log>(
 // Reads the node of a page and accesses the page, which takes no memory where it is listed with its size. What a refused access has
 // read isn't kept.
 pub(crate) fn pull_and_access<L: Log>(
-    alloc: Global,
     sticky_log: &mut StickyLog<L>,
     accesses: &mut Accesses,
     pid: PageId,
@@ -60,7 +57,7 @@ pub(crate) fn pull_and_access<L: Log>(
     ensures accessed { OnOk result (AccessesNode accesses.old pid page.new accesses.new) }
 {
     let was_away = matches!(page.kept, PageContent::OnLog);
-    pull(alloc, sticky_log, pid, page)?;
+    pull(sticky_log, pid, page)?;
     let outcome = access_node(accesses, pid, page);
     if was_away && outcome.is_err() {
         page.kept = PageContent::OnLog;
@@ -84,7 +81,6 @@ fn access_node(accesses: &mut Accesses, pid: PageId, page: &Page) -> Result<(), 
 // Applies a link to the node of a page, which is read where it doesn't lie in memory, and answers whether it joins the page's messages.
 // What a refused link has read isn't kept.
 pub(crate) fn pull_and_link<L: Log>(
-    alloc: Global,
     sticky_log: &mut StickyLog<L>,
     accesses: &mut Accesses,
     pid: PageId,
@@ -100,8 +96,8 @@ pub(crate) fn pull_and_link<L: Log>(
         accesses.new page.new result }
 {
     let was_away = matches!(page.kept, PageContent::OnLog);
-    pull(alloc, sticky_log, pid, page)?;
-    match link_page(alloc, sticky_log, accesses, pid, page, link) {
+    pull(sticky_log, pid, page)?;
+    match link_page(sticky_log, accesses, pid, page, link) {
         Ok(joins) => Ok(joins),
         Err(refusal) => {
             if was_away {

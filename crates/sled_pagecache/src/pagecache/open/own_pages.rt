@@ -32,7 +32,6 @@ use std::alloc::Global;
 
 // Reads the named roots.
 pub(crate) fn read_roots<L: Log>(
-    alloc: Global,
     sticky_log: &mut StickyLog<L>,
     page: &Page,
 ) -> Result<BoxedRoots, Refusal>
@@ -54,12 +53,11 @@ pub(crate) fn read_roots<L: Log>(
         payload: payload.bytes(&space),
         pointer,
     };
-    boxed_roots(&found, alloc)
+    boxed_roots(&found, sticky_log.alloc)
 }
 
 // Reads the counter.
 pub(crate) fn read_counter<L: Log>(
-    alloc: Global,
     sticky_log: &mut StickyLog<L>,
     page: &Page,
 ) -> Result<u64, Refusal>
@@ -81,7 +79,7 @@ pub(crate) fn read_counter<L: Log>(
         payload: payload.bytes(&space),
         pointer,
     };
-    counter_of(&found, alloc)
+    counter_of(&found, sticky_log.alloc)
 }
 
 // Reads the one message of a system page: its kind, its payload and where it is kept. A page that is free, or has more, is refused before.
@@ -154,7 +152,6 @@ fn counter_of(found: &Found<'_>, alloc: Global) -> Result<u64, Refusal>
 
 // Makes the page of the named roots, of which there are none, at stamp 1, unless it is there.
 pub(crate) fn add_roots<L: Log>(
-    alloc: Global,
     sticky_log: &mut StickyLog<L>,
     pages: &mut PageTable,
 ) -> Result<(), Refusal>
@@ -179,12 +176,12 @@ pub(crate) fn add_roots<L: Log>(
     let Ok(()) = pages.reserve() else {
         return Err(Refusal::OutOfMemory);
     };
-    let Ok(held) = BoxedRoots::new(alloc, Meta::default(alloc)) else {
+    let Ok(held) = BoxedRoots::new(sticky_log.alloc, Meta::default(sticky_log.alloc)) else {
         return Err(Refusal::OutOfMemory);
     };
     let roots = held.as_meta();
     let size = roots.serialized_size();
-    let info = write_roots(alloc, sticky_log, META_PID, roots, size, 1)?;
+    let info = write_roots(sticky_log, META_PID, roots, size, 1)?;
     pages.push_reserved(Page {
         stamp: 1,
         infos: Infos::one(info),
@@ -195,7 +192,6 @@ pub(crate) fn add_roots<L: Log>(
 
 // Makes the page of the counter, which is 0, at stamp 1.
 pub(crate) fn add_counter<L: Log>(
-    alloc: Global,
     sticky_log: &mut StickyLog<L>,
     pages: &mut PageTable,
 ) -> Result<(), Refusal>
@@ -215,7 +211,7 @@ pub(crate) fn add_counter<L: Log>(
     let Ok(()) = pages.reserve() else {
         return Err(Refusal::OutOfMemory);
     };
-    let info = write_counter(alloc, sticky_log, COUNTER_PID, 0, 1)?;
+    let info = write_counter(sticky_log, COUNTER_PID, 0, 1)?;
     pages.push_reserved(Page {
         stamp: 1,
         infos: Infos::one(info),

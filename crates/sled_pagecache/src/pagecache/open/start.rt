@@ -27,7 +27,6 @@ use crate::pagecache::write::sticky_log::StickyLog;
 use crate::pagecache::{COUNTER_PID, MAX_PAGES, META_PID};
 use sled_base::Refusal;
 use sled_log::Log;
-use std::alloc::Global;
 
 /// What a cache is opened with: its pages, the ids of the free ones, the next generated id, and whether both system pages were
 /// found in the log.
@@ -41,7 +40,6 @@ pub(crate) struct Opening {
 
 // Reads what a log holds for a cache, and makes what is missing.
 pub(crate) fn open<L: Log>(
-    alloc: Global,
     config: Config,
     sticky_log: &mut StickyLog<L>,
 ) -> Result<Opening, Refusal>
@@ -66,15 +64,12 @@ pub(crate) fn open<L: Log>(
     ensures reads { L.tells → HasRead L.counts sticky_log.old.log sticky_log.new.log
         (own_among (length (now effect_of_entry (L.state sticky_log.old.log)))) result }
 {
-    let (pages, counter) = load(alloc, sticky_log)?;
-    complete(alloc, config, sticky_log, pages, counter)
+    let (pages, counter) = load(sticky_log)?;
+    complete(config, sticky_log, pages, counter)
 }
 
 // Reads the pages that a log holds, with the contents of the system pages, and answers the counter too, where its page is there.
-fn load<L: Log>(
-    alloc: Global,
-    sticky_log: &mut StickyLog<L>,
-) -> Result<(PageTable, Option<u64>), Refusal>
+fn load<L: Log>(sticky_log: &mut StickyLog<L>) -> Result<(PageTable, Option<u64>), Refusal>
     requires ready { IsReady L.Log sticky_log.old }
     ensures proceeds { Proceeds L.Log sticky_log.old sticky_log.new [] (refusal_in result) }
     ensures same { L.tells → sticky_log.new.fault ≡ false → now effect_of_entry
@@ -87,8 +82,8 @@ fn load<L: Log>(
     ensures reads { L.tells → HasRead L.counts sticky_log.old.log sticky_log.new.log
         (own_among (length (now effect_of_entry (L.state sticky_log.old.log)))) result }
 {
-    let mut pages = recover_pages(alloc, sticky_log)?;
-    let counter = read_system_pages(alloc, sticky_log, &mut pages)?;
+    let mut pages = recover_pages(sticky_log)?;
+    let counter = read_system_pages(sticky_log, &mut pages)?;
     match misfit(&pages) {
         Some(pointer) => Err(Refusal::Corruption(Some(pointer))),
         None => Ok((pages, counter)),
@@ -97,7 +92,6 @@ fn load<L: Log>(
 
 // Makes the system pages that are missing, and finds the free ids.
 fn complete<L: Log>(
-    alloc: Global,
     config: Config,
     sticky_log: &mut StickyLog<L>,
     mut pages: PageTable,
@@ -125,8 +119,8 @@ fn complete<L: Log>(
         → IfSome (slice_get opening.pages.pages pid) (λ page. IsUnread page.kept)) }
     ensures reads { (L.counts sticky_log.new.log).reads ≡ (L.counts sticky_log.old.log).reads }
 {
-    add_missing(alloc, sticky_log, &mut pages)?;
-    let Ok(free) = free_of(alloc, &pages) else {
+    add_missing(sticky_log, &mut pages)?;
+    let Ok(free) = free_of(sticky_log.alloc, &pages) else {
         return Err(Refusal::OutOfMemory);
     };
     Ok(Opening {
@@ -148,7 +142,7 @@ fn next_id(config: Config, counter: Option<u64>) -> u128
 }
 
 // The pages that the log holds, of which none was read yet.
-fn recover_pages<L: Log>(alloc: Global, sticky_log: &mut StickyLog<L>) -> Result<PageTable, Refusal>
+fn recover_pages<L: Log>(sticky_log: &mut StickyLog<L>) -> Result<PageTable, Refusal>
     requires ready { IsReady L.Log sticky_log.old }
     ensures proceeds { Proceeds L.Log sticky_log.old sticky_log.new [] (refusal_in result) }
     ensures same { L.tells → sticky_log.new.fault ≡ false → now effect_of_entry
@@ -163,7 +157,7 @@ fn recover_pages<L: Log>(alloc: Global, sticky_log: &mut StickyLog<L>) -> Result
     if states.len() > MAX_PAGES {
         return Err(Refusal::Corruption(None));
     }
-    let Ok(pages) = recovered_pages(alloc, &states) else {
+    let Ok(pages) = recovered_pages(sticky_log.alloc, &states) else {
         return Err(Refusal::OutOfMemory);
     };
     Ok(pages)
@@ -171,7 +165,6 @@ fn recover_pages<L: Log>(alloc: Global, sticky_log: &mut StickyLog<L>) -> Result
 
 // Reads the contents of the system pages, and answers the counter, where its page is there.
 fn read_system_pages<L: Log>(
-    alloc: Global,
     sticky_log: &mut StickyLog<L>,
     pages: &mut PageTable,
 ) -> Result<Option<u64>, Refusal>
@@ -191,22 +184,18 @@ fn read_system_pages<L: Log>(
     let Some(page) = pages.get(META_PID) else {
         return Ok(None);
     };
-    let roots = read_roots(alloc, sticky_log, page)?;
+    let roots = read_roots(sticky_log, page)?;
     pages.get_mut(META_PID).kept = PageContent::Roots(roots);
     let Some(page) = pages.get(COUNTER_PID) else {
         return Ok(None);
     };
-    let n = read_counter(alloc, sticky_log, page)?;
+    let n = read_counter(sticky_log, page)?;
     pages.get_mut(COUNTER_PID).kept = PageContent::Counter(n);
     Ok(Some(n))
 }
 
 // Makes the system pages that are missing, each at stamp 1, and makes them stable.
-fn add_missing<L: Log>(
-    alloc: Global,
-    sticky_log: &mut StickyLog<L>,
-    pages: &mut PageTable,
-) -> Result<(), Refusal>
+fn add_missing<L: Log>(sticky_log: &mut StickyLog<L>, pages: &mut PageTable) -> Result<(), Refusal>
     requires ready { IsReady L.Log sticky_log.old }
     requires closed { is_open (L.state sticky_log.old.log).pending ≡ false }
     requires table { IsTable L.tells (now effect_of_entry (L.state sticky_log.old.log))
@@ -230,8 +219,8 @@ fn add_missing<L: Log>(
     if pages.len() > 1 {
         return Ok(());
     }
-    add_roots(alloc, sticky_log, pages)?;
-    add_counter(alloc, sticky_log, pages)?;
+    add_roots(sticky_log, pages)?;
+    add_counter(sticky_log, pages)?;
     sticky_log.make_stable()?;
     Ok(())
 }

@@ -23,7 +23,6 @@ use crate::pagecache::write::message::write_content;
 use crate::pagecache::write::sticky_log::StickyLog;
 use sled_base::{Refusal, Serialize, Why};
 use sled_log::Log;
-use std::alloc::Global;
 
 // The counter, with the token of its page.
 pub(crate) fn own_counter(pages: &PageTable) -> (PageView, u64)
@@ -51,7 +50,6 @@ pub(crate) fn interval_start(interval: u64, n: u64) -> u64
 
 // Puts another counter on its page, and makes that and all that is pending stable. A refusal leaves the page.
 pub(crate) fn put_counter<L: Log>(
-    alloc: Global,
     sticky_log: &mut StickyLog<L>,
     accesses: &mut Accesses,
     page: &mut Page,
@@ -72,7 +70,7 @@ pub(crate) fn put_counter<L: Log>(
     let Ok(()) = accesses.access(COUNTER_PID, size_with(0, payload)) else {
         return Err(Refusal::OutOfMemory);
     };
-    let info = write_durably(alloc, sticky_log, n, payload, page.stamp + 1)?;
+    let info = write_durably(sticky_log, n, payload, page.stamp + 1)?;
     page.kept = PageContent::Counter(n);
     keep_alone(page, info);
     Ok(())
@@ -80,7 +78,6 @@ pub(crate) fn put_counter<L: Log>(
 
 // Writes a counter to the log, in so many bytes, and makes that and all that is pending stable. It answers how the message is kept, at that stamp.
 fn write_durably<L: Log>(
-    alloc: Global,
     sticky_log: &mut StickyLog<L>,
     n: u64,
     size: u64,
@@ -96,7 +93,7 @@ fn write_durably<L: Log>(
     ensures stable { OnOk result ((L.state sticky_log.new.log).pending ≡ []) }
 {
     let counter = PageContent::Counter(n);
-    let info = write_content(alloc, sticky_log, COUNTER_PID, &counter, size, stamp)?;
+    let info = write_content(sticky_log, COUNTER_PID, &counter, size, stamp)?;
     sticky_log.make_stable()?;
     Ok(info)
 }

@@ -11,21 +11,21 @@ ghost use Rattle.sled_node.specs.Node.{empty_leaf};
 ghost use Rattle.sled_node.specs.Payloads.Links.{CanWriteLink};
 ghost use Rattle.sled_pagecache.specs.Inside.PageWrites.{CanPut, WritesMessage, Wrote, content_of};
 ghost use Rattle.sled_pagecache.specs.Inside.StickyLog.{IsReady};
+ghost use Rattle.sled_pagecache.specs.State.{pid_of, stamp_of};
 
+use crate::pagecache::handles::view::PageView;
 use crate::pagecache::table::boxed_node::{BoxedNode, EMPTY_LEAF};
 use crate::pagecache::table::page_entry::{CacheInfo, PageContent};
 use crate::pagecache::write::sticky_log::StickyLog;
 use sled_base::{MessageKind, PageId, Refusal, Serialize};
 use sled_log::Log;
 use sled_node::{Link, Meta};
-use std::alloc::Global;
 
 // A payload of at most so many bytes is made without an allocation.
 const SHORT_PAYLOAD: usize = 256;
 
 // Writes a node to the log as the content of a page, in so many bytes, and answers how it is kept, at that stamp.
 pub(crate) fn write_node<L: Log>(
-    alloc: Global,
     sticky_log: &mut StickyLog<L>,
     pid: PageId,
     node: &BoxedNode,
@@ -45,15 +45,8 @@ pub(crate) fn write_node<L: Log>(
     };
     // Every node is well-formed.
     let _ = node.data();
-    write(
-        alloc,
-        sticky_log,
-        MessageKind::InlineNode,
-        pid,
-        node,
-        size,
-        stamp,
-    )
+    let token = PageView::new(pid, stamp);
+    write(sticky_log, MessageKind::InlineNode, token, node, size)
 }
 
 // Writes an empty leaf to the log as the content of a page, and answers how it is kept, at that stamp.
@@ -72,7 +65,6 @@ pub(crate) fn write_empty_leaf<L: Log>(
 
 // Writes a link to the log, in so many bytes, and answers how it is kept, at that stamp.
 pub(crate) fn write_link<L: Log>(
-    alloc: Global,
     sticky_log: &mut StickyLog<L>,
     pid: PageId,
     link: &Link,
@@ -86,20 +78,12 @@ pub(crate) fn write_link<L: Log>(
         (L.state sticky_log.old.log)) pid (message_of (contents.Link link.now)).kind ≡ true }
     ensures { Wrote L.Log sticky_log.old sticky_log.new pid (contents.Link link.now) stamp result }
 {
-    write(
-        alloc,
-        sticky_log,
-        MessageKind::InlineLink,
-        pid,
-        link,
-        size,
-        stamp,
-    )
+    let token = PageView::new(pid, stamp);
+    write(sticky_log, MessageKind::InlineLink, token, link, size)
 }
 
 // Writes a root map to the log as the content of a page, in so many bytes, and answers how it is kept, at that stamp.
 pub(crate) fn write_roots<L: Log>(
-    alloc: Global,
     sticky_log: &mut StickyLog<L>,
     pid: PageId,
     roots: &Meta,
@@ -113,20 +97,12 @@ pub(crate) fn write_roots<L: Log>(
     ensures { Wrote L.Log sticky_log.old sticky_log.new pid
         (contents.Put (contents.Roots roots.now)) stamp result }
 {
-    write(
-        alloc,
-        sticky_log,
-        MessageKind::InlineMeta,
-        pid,
-        roots,
-        size,
-        stamp,
-    )
+    let token = PageView::new(pid, stamp);
+    write(sticky_log, MessageKind::InlineMeta, token, roots, size)
 }
 
 // Writes a counter to the log as the content of a page, and answers how it is kept, at that stamp.
 pub(crate) fn write_counter<L: Log>(
-    alloc: Global,
     sticky_log: &mut StickyLog<L>,
     pid: PageId,
     n: u64,
@@ -137,20 +113,18 @@ pub(crate) fn write_counter<L: Log>(
     ensures { Wrote L.Log sticky_log.old sticky_log.new pid (contents.Put (contents.Counter n))
         stamp result }
 {
+    let token = PageView::new(pid, stamp);
     write(
-        alloc,
         sticky_log,
         MessageKind::Counter,
-        pid,
+        token,
         &n,
         n.serialized_size(),
-        stamp,
     )
 }
 
 // Writes to the log that a page is free, and answers how that is kept, at that stamp.
 fn write_free<L: Log>(
-    alloc: Global,
     sticky_log: &mut StickyLog<L>,
     pid: PageId,
     stamp: u64,
@@ -160,12 +134,12 @@ fn write_free<L: Log>(
     ensures { Wrote L.Log sticky_log.old sticky_log.new pid (contents.Put contents.Free) stamp
         result }
 {
-    write(alloc, sticky_log, MessageKind::Free, pid, &(), 0, stamp)
+    let token = PageView::new(pid, stamp);
+    write(sticky_log, MessageKind::Free, token, &(), 0)
 }
 
 // Writes what is put on a page, in so many bytes, and answers how it is kept, at that stamp.
 pub(crate) fn write_content<L: Log>(
-    alloc: Global,
     sticky_log: &mut StickyLog<L>,
     pid: PageId,
     kept: &PageContent,
@@ -180,51 +154,42 @@ pub(crate) fn write_content<L: Log>(
         stamp result }
 {
     match kept {
-        PageContent::Node(node) => write_node(alloc, sticky_log, pid, node, size, stamp),
-        PageContent::Roots(roots) => write_roots(
-            alloc,
-            sticky_log,
-            pid,
-            roots.as_meta(),
-            size,
-            stamp,
-        ),
-        PageContent::Counter(n) => write_counter(alloc, sticky_log, pid, *n, stamp),
-        PageContent::Free => write_free(alloc, sticky_log, pid, stamp),
+        PageContent::Node(node) => write_node(sticky_log, pid, node, size, stamp),
+        PageContent::Roots(roots) => write_roots(sticky_log, pid, roots.as_meta(), size, stamp),
+        PageContent::Counter(n) => write_counter(sticky_log, pid, *n, stamp),
+        PageContent::Free => write_free(sticky_log, pid, stamp),
         PageContent::OnLog => unreachable!(),
     }
 }
 
-// Writes a value to the log as a message of a page, in so many bytes, and answers how it is kept, at that stamp.
+// Writes a value to the log as a message of a page, in so many bytes, and answers how it is kept, where the page gets that token.
 fn write<L: Log, T: Serialize>(
-    alloc: Global,
     sticky_log: &mut StickyLog<L>,
     kind: MessageKind,
-    pid: PageId,
+    token: PageView,
     value: &T,
     size: u64,
-    stamp: u64,
 ) -> Result<CacheInfo, Refusal>
     requires can_write { T.can_write value.now }
     requires sized { size ≡ length (T.written value.now) }
     requires ready { IsReady L.Log sticky_log.old }
     requires can { L.tells → can_append effect_of_entry
-        (now effect_of_entry (L.state sticky_log.old.log)) pid kind ≡ true }
-    ensures { WritesMessage L.Log sticky_log.old sticky_log.new pid
-        (message kind (T.written value.now)) stamp result }
+        (now effect_of_entry (L.state sticky_log.old.log)) (pid_of token) kind ≡ true }
+    ensures { WritesMessage L.Log sticky_log.old sticky_log.new (pid_of token)
+        (message kind (T.written value.now)) (stamp_of token) result }
 {
     let size = size as usize;
     if size <= SHORT_PAYLOAD {
         let mut room = [0; SHORT_PAYLOAD];
         let payload = &mut room[..size];
         fill(value, payload);
-        return write_payload(sticky_log, kind, pid, payload, stamp);
+        return write_payload(sticky_log, kind, token.pid(), payload, token.ts());
     }
-    let Ok(mut payload) = vec![in alloc; 0; size] else {
+    let Ok(mut payload) = vec![in sticky_log.alloc; 0; size] else {
         return Err(Refusal::OutOfMemory);
     };
     fill(value, &mut payload);
-    write_payload(sticky_log, kind, pid, &payload, stamp)
+    write_payload(sticky_log, kind, token.pid(), &payload, token.ts())
 }
 
 // Writes a value over all of these bytes.

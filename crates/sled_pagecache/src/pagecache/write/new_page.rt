@@ -17,11 +17,9 @@ use crate::pagecache::write::sticky_log::StickyLog;
 use sled_base::{PageId, Refusal, Why};
 use sled_log::Log;
 use sled_node::Node;
-use std::alloc::Global;
 
 // Puts a node on a new page behind the others, at stamp 1. A refusal leaves the pages.
 pub(crate) fn add_page<L: Log>(
-    alloc: Global,
     sticky_log: &mut StickyLog<L>,
     accesses: &mut Accesses,
     pages: &mut PageTable,
@@ -42,14 +40,14 @@ pub(crate) fn add_page<L: Log>(
     let Ok(()) = pages.reserve() else {
         return Err(Refusal::OutOfMemory);
     };
-    let Ok(held) = BoxedNode::new(alloc, node) else {
+    let Ok(held) = BoxedNode::new(sticky_log.alloc, node) else {
         return Err(Refusal::OutOfMemory);
     };
     let size = held.written_size();
     let Ok(()) = accesses.access(pid, size_with(0, size)) else {
         return Err(Refusal::OutOfMemory);
     };
-    let info = write_node(alloc, sticky_log, pid, &held, size, 1)?;
+    let info = write_node(sticky_log, pid, &held, size, 1)?;
     pages.push_reserved(Page {
         stamp: 1,
         infos: Infos::one(info),

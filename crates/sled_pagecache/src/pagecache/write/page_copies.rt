@@ -24,12 +24,10 @@ use crate::pagecache::write::page_swap::payload_size;
 use crate::pagecache::write::sticky_log::StickyLog;
 use sled_base::{PageId, Refusal};
 use sled_log::Log;
-use std::alloc::Global;
 
 // Puts what each page holds on a page of the other log, which holds none yet, by their ids, and makes all of it stable there. A page
 // that isn't in memory is read, and let go.
 pub(crate) fn copy_pages<L: Log, M: Log>(
-    alloc: Global,
     sticky_log: &mut StickyLog<L>,
     pages: &PageTable,
     copy: &mut StickyLog<M>,
@@ -49,7 +47,7 @@ pub(crate) fn copy_pages<L: Log, M: Log>(
         let Some(page) = pages.get(pid as PageId) else {
             unreachable!()
         };
-        copy_page(alloc, sticky_log, pid as PageId, page, copy)?;
+        copy_page(sticky_log, pid as PageId, page, copy)?;
     }
     copy.make_stable()?;
     Ok(())
@@ -57,7 +55,6 @@ pub(crate) fn copy_pages<L: Log, M: Log>(
 
 // Puts what a page holds on the next new page of the other log. A node that isn't in memory is read, and let go.
 fn copy_page<L: Log, M: Log>(
-    alloc: Global,
     sticky_log: &mut StickyLog<L>,
     pid: PageId,
     page: &Page,
@@ -72,47 +69,41 @@ fn copy_page<L: Log, M: Log>(
         result }
 {
     let PageContent::OnLog = page.kept else {
-        return put_copy(alloc, copy, pid, &page.kept);
+        return put_copy(copy, pid, &page.kept);
     };
-    let node = read_node(alloc, sticky_log, pid, page.cache_infos())?;
-    put_copy(alloc, copy, pid, &PageContent::Node(node))
+    let node = read_node(sticky_log, pid, page.cache_infos())?;
+    put_copy(copy, pid, &PageContent::Node(node))
 }
 
 // Puts what is in memory of a page on the next new page of a log.
-fn put_copy<L: Log>(
-    alloc: Global,
-    copy: &mut StickyLog<L>,
-    pid: PageId,
-    kept: &PageContent,
-) -> Result<(), Refusal>
+fn put_copy<L: Log>(copy: &mut StickyLog<L>, pid: PageId, kept: &PageContent) -> Result<(), Refusal>
     requires held { is_resident kept.now ≡ true }
     requires ready { IsReady L.Log copy.old }
     requires next { L.tells → pid ≡ length (now effect_of_entry (L.state copy.old.log)) }
     ensures { PutsCopy L.Log pid (content_of kept.now) copy.old copy.new result }
 {
     match kept {
-        PageContent::Free => put_free(alloc, copy, pid),
+        PageContent::Free => put_free(copy, pid),
         _ => {
-            put_content(alloc, copy, pid, kept)?;
+            put_content(copy, pid, kept)?;
             Ok(())
         }
     }
 }
 
 // Puts a free page behind those of a log. No log frees a page that isn't there, so it is put there as an empty leaf first.
-fn put_free<L: Log>(alloc: Global, copy: &mut StickyLog<L>, pid: PageId) -> Result<(), Refusal>
+fn put_free<L: Log>(copy: &mut StickyLog<L>, pid: PageId) -> Result<(), Refusal>
     requires ready { IsReady L.Log copy.old }
     requires next { L.tells → pid ≡ length (now effect_of_entry (L.state copy.old.log)) }
     ensures { PutsCopy L.Log pid contents.Free copy.old copy.new result }
 {
     write_empty_leaf(copy, pid, 0)?;
-    write_content(alloc, copy, pid, &PageContent::Free, 0, 0)?;
+    write_content(copy, pid, &PageContent::Free, 0, 0)?;
     Ok(())
 }
 
 // Writes what is in memory of a page, which isn't free, as the next new page of a log.
 fn put_content<L: Log>(
-    alloc: Global,
     copy: &mut StickyLog<L>,
     pid: PageId,
     kept: &PageContent,
@@ -126,9 +117,9 @@ fn put_content<L: Log>(
     know_limits(kept);
     let size = payload_size(kept);
     match kept {
-        PageContent::Node(node) => write_node(alloc, copy, pid, node, size, 0),
-        PageContent::Roots(roots) => write_roots(alloc, copy, pid, roots.as_meta(), size, 0),
-        PageContent::Counter(n) => write_counter(alloc, copy, pid, *n, 0),
+        PageContent::Node(node) => write_node(copy, pid, node, size, 0),
+        PageContent::Roots(roots) => write_roots(copy, pid, roots.as_meta(), size, 0),
+        PageContent::Counter(n) => write_counter(copy, pid, *n, 0),
         PageContent::Free | PageContent::OnLog => unreachable!(),
     }
 }

@@ -27,7 +27,6 @@ use std::alloc::Global;
 //
 // `Corruption` comes where no node of the page is in memory, and `LinkRefused` where the node doesn't accept the link.
 pub(crate) fn link_page<L: Log>(
-    alloc: Global,
     sticky_log: &mut StickyLog<L>,
     accesses: &mut Accesses,
     pid: PageId,
@@ -43,16 +42,16 @@ pub(crate) fn link_page<L: Log>(
     let PageContent::Node(node) = &page.kept else {
         return Err(Refusal::Corruption(None));
     };
-    if !accepts(alloc, node, link) {
+    if !accepts(sticky_log.alloc, node, link) {
         return Err(Refusal::ReportableBug(Bug::LinkRefused));
     }
     if page.stamp == u64::MAX {
         return Err(Refusal::Unsupported(Why::StampUsedUp));
     }
     if page.infos.len() < PAGE_CONSOLIDATION_THRESHOLD {
-        return join_link(alloc, sticky_log, accesses, pid, page, link);
+        return join_link(sticky_log, accesses, pid, page, link);
     }
-    put_linked(alloc, sticky_log, accesses, pid, page, link)
+    put_linked(sticky_log, accesses, pid, page, link)
 }
 
 // Whether the node accepts the link, which can be written then.
@@ -73,7 +72,6 @@ fn accepts(alloc: Global, node: &BoxedNode, link: &Link) -> bool
 // Applies a link that the page's node accepts, and appends it to the log as one more message of the page.
 #[inline(always)]
 fn join_link<L: Log>(
-    alloc: Global,
     sticky_log: &mut StickyLog<L>,
     accesses: &mut Accesses,
     pid: PageId,
@@ -93,10 +91,10 @@ fn join_link<L: Log>(
     let PageContent::Node(node) = &mut page.kept else {
         unreachable!();
     };
-    let Ok(()) = page.infos.reserve(alloc) else {
+    let Ok(()) = page.infos.reserve(sticky_log.alloc) else {
         return Err(Refusal::OutOfMemory);
     };
-    let Ok(()) = node.apply(alloc, link) else {
+    let Ok(()) = node.apply(sticky_log.alloc, link) else {
         return Err(Refusal::OutOfMemory);
     };
     let size = link.serialized_size();
@@ -105,7 +103,7 @@ fn join_link<L: Log>(
         page.kept = PageContent::OnLog;
         return Err(Refusal::OutOfMemory);
     };
-    match write_link(alloc, sticky_log, pid, link, size, page.stamp + 1) {
+    match write_link(sticky_log, pid, link, size, page.stamp + 1) {
         Ok(info) => {
             keep_also(page, info);
             Ok(true)
@@ -119,7 +117,6 @@ fn join_link<L: Log>(
 
 // Applies a link that the page's node accepts, and puts the node that it makes on the page, in place of its messages.
 fn put_linked<L: Log>(
-    alloc: Global,
     sticky_log: &mut StickyLog<L>,
     accesses: &mut Accesses,
     pid: PageId,
@@ -138,7 +135,7 @@ fn put_linked<L: Log>(
     let PageContent::Node(node) = &mut page.kept else {
         unreachable!();
     };
-    let Ok(()) = node.apply(alloc, link) else {
+    let Ok(()) = node.apply(sticky_log.alloc, link) else {
         return Err(Refusal::OutOfMemory);
     };
     let size = node.written_size();
@@ -146,7 +143,7 @@ fn put_linked<L: Log>(
         page.kept = PageContent::OnLog;
         return Err(Refusal::OutOfMemory);
     };
-    match write_node(alloc, sticky_log, pid, node, size, page.stamp + 1) {
+    match write_node(sticky_log, pid, node, size, page.stamp + 1) {
         Ok(info) => {
             keep_alone(page, info);
             Ok(false)

@@ -22,7 +22,6 @@ use crate::pagecache::write::page_swap::payload_size;
 use crate::pagecache::write::sticky_log::StickyLog;
 use sled_base::{BlobPointer, DiskPtr, LogOffset, PageId, Refusal};
 use sled_log::Log;
-use std::alloc::Global;
 
 // Whether a message lies in the segment of a place, of those that make a page.
 pub(crate) fn lies_in(config: Config, place: LogOffset, infos: &[CacheInfo]) -> bool
@@ -48,7 +47,6 @@ fn segment_of(config: Config, place: LogOffset) -> u64
 // lies there. One that is kept as one blob isn't read: its message is written again, and it stays in memory or out of it. A refusal
 // leaves the page, and what it has read isn't kept.
 pub(crate) fn move_page<L: Log>(
-    alloc: Global,
     sticky_log: &mut StickyLog<L>,
     accesses: &mut Accesses,
     pid: PageId,
@@ -65,7 +63,7 @@ pub(crate) fn move_page<L: Log>(
 {
     match blob_of(page) {
         Some(blob) => move_blob(sticky_log, accesses, pid, page, blob),
-        None => pull_and_rewrite(alloc, sticky_log, accesses, pid, page),
+        None => pull_and_rewrite(sticky_log, accesses, pid, page),
     }
 }
 
@@ -120,7 +118,6 @@ fn move_blob<L: Log>(
 
 // Writes again what a page holds, which is read before where it doesn't lie in memory.
 fn pull_and_rewrite<L: Log>(
-    alloc: Global,
     sticky_log: &mut StickyLog<L>,
     accesses: &mut Accesses,
     pid: PageId,
@@ -135,8 +132,8 @@ fn pull_and_rewrite<L: Log>(
         page.new result }
 {
     let was_away = matches!(page.kept, PageContent::OnLog);
-    pull(alloc, sticky_log, pid, page)?;
-    match rewrite(alloc, sticky_log, accesses, pid, page) {
+    pull(sticky_log, pid, page)?;
+    match rewrite(sticky_log, accesses, pid, page) {
         Ok(()) => Ok(()),
         Err(refusal) => {
             if was_away {
@@ -149,7 +146,6 @@ fn pull_and_rewrite<L: Log>(
 
 // Writes again what lies in memory of a page. A refusal leaves the page.
 fn rewrite<L: Log>(
-    alloc: Global,
     sticky_log: &mut StickyLog<L>,
     accesses: &mut Accesses,
     pid: PageId,
@@ -167,7 +163,7 @@ fn rewrite<L: Log>(
         return Err(Refusal::OutOfMemory);
     };
     let stamp = page.stamp;
-    let info = write_content(alloc, sticky_log, pid, &page.kept, size, stamp)?;
+    let info = write_content(sticky_log, pid, &page.kept, size, stamp)?;
     keep_moved(page, info);
     Ok(())
 }

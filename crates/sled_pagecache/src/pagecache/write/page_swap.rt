@@ -23,11 +23,9 @@ use crate::pagecache::write::sticky_log::StickyLog;
 use sled_base::{PageId, Refusal, Serialize, Why};
 use sled_log::Log;
 use sled_node::Node;
-use std::alloc::Global;
 
 // Puts a content on a page in place of what it held. A refusal leaves the page.
 pub(crate) fn put_page<L: Log>(
-    alloc: Global,
     sticky_log: &mut StickyLog<L>,
     accesses: &mut Accesses,
     pid: PageId,
@@ -47,7 +45,7 @@ pub(crate) fn put_page<L: Log>(
     let Ok(()) = accesses.access(pid, size_with(0, payload)) else {
         return Err(Refusal::OutOfMemory);
     };
-    let info = write_content(alloc, sticky_log, pid, &kept, payload, page.stamp + 1)?;
+    let info = write_content(sticky_log, pid, &kept, payload, page.stamp + 1)?;
     page.kept = kept;
     keep_alone(page, info);
     Ok(())
@@ -55,7 +53,6 @@ pub(crate) fn put_page<L: Log>(
 
 // Puts a node on a page in place of what it held. A refusal leaves the page.
 pub(crate) fn put_node<L: Log>(
-    alloc: Global,
     sticky_log: &mut StickyLog<L>,
     accesses: &mut Accesses,
     pid: PageId,
@@ -72,22 +69,14 @@ pub(crate) fn put_node<L: Log>(
     if page.stamp == u64::MAX {
         return Err(Refusal::Unsupported(Why::StampUsedUp));
     }
-    let Ok(held) = BoxedNode::new(alloc, node) else {
+    let Ok(held) = BoxedNode::new(sticky_log.alloc, node) else {
         return Err(Refusal::OutOfMemory);
     };
-    put_page(
-        alloc,
-        sticky_log,
-        accesses,
-        pid,
-        page,
-        PageContent::Node(held),
-    )
+    put_page(sticky_log, accesses, pid, page, PageContent::Node(held))
 }
 
 // Frees a page, and puts its id among those of the free ones. A refusal leaves both.
 pub(crate) fn free_page<L: Log>(
-    alloc: Global,
     sticky_log: &mut StickyLog<L>,
     accesses: &mut Accesses,
     free: &mut FreeIds,
@@ -108,7 +97,7 @@ pub(crate) fn free_page<L: Log>(
     let Ok(()) = free.put(pid) else {
         return Err(Refusal::OutOfMemory);
     };
-    let freed = put_page(alloc, sticky_log, accesses, pid, page, PageContent::Free);
+    let freed = put_page(sticky_log, accesses, pid, page, PageContent::Free);
     if freed.is_err() {
         free.take_back(pid);
     }
@@ -117,7 +106,6 @@ pub(crate) fn free_page<L: Log>(
 
 // Puts a node on the free page with the greatest id, which is free no more then. A refusal leaves both.
 pub(crate) fn reuse_page<L: Log>(
-    alloc: Global,
     sticky_log: &mut StickyLog<L>,
     accesses: &mut Accesses,
     free: &mut FreeIds,
@@ -133,7 +121,7 @@ pub(crate) fn reuse_page<L: Log>(
     ensures put { Puts L.Log pid (page_content.Node node) sticky_log.old sticky_log.new accesses.old
         accesses.new page.old page.new result }
 {
-    let put = put_node(alloc, sticky_log, accesses, pid, page, node);
+    let put = put_node(sticky_log, accesses, pid, page, node);
     if put.is_ok() {
         free.take_greatest();
     }

@@ -28,7 +28,6 @@ use sled_base::{Device, MessageKind, PageId, Refusal, Serialize, Why};
 use sled_log::Log;
 use sled_node::Meta;
 use sled_node::node::MAX_BYTES;
-use std::alloc::Global;
 
 // The map of named roots, with the token of its page. A kept write fault is answered.
 pub(crate) fn own_roots(fault: bool, pages: &PageTable) -> Result<MetaView<'_>, Refusal>
@@ -87,7 +86,6 @@ pub(crate) fn judge_name(roots: &Meta, name: &[u8]) -> Result<(), Refusal>
 // Gives a name another root page in the map that the page holds, or takes it out where there is none, and writes the map. A
 // refusal leaves the page.
 pub(crate) fn swap_root<L: Log>(
-    alloc: Global,
     sticky_log: &mut StickyLog<L>,
     accesses: &mut Accesses,
     page: &mut Page,
@@ -113,14 +111,13 @@ pub(crate) fn swap_root<L: Log>(
         return Err(Refusal::Unsupported(Why::StampUsedUp));
     }
     let stamp = page.stamp + 1;
-    let info = put_changed(alloc, sticky_log, accesses, roots, name, root, stamp)?;
+    let info = put_changed(sticky_log, accesses, roots, name, root, stamp)?;
     keep_alone(page, info);
     Ok(())
 }
 
 // Changes the map as asked, and writes it. A refusal leaves the map.
 fn put_changed<L: Log>(
-    alloc: Global,
     sticky_log: &mut StickyLog<L>,
     accesses: &mut Accesses,
     roots: &mut Meta,
@@ -139,7 +136,7 @@ fn put_changed<L: Log>(
 {
     match root {
         None => put_without(sticky_log, accesses, roots, name, stamp),
-        Some(root) => put_with(alloc, sticky_log, accesses, roots, name, root, stamp),
+        Some(root) => put_with(sticky_log, accesses, roots, name, root, stamp),
     }
 }
 
@@ -172,7 +169,6 @@ fn put_without<L: Log>(
 // Sets the name to that root, and writes the map. Where it can't be written, the name is given back what it had, which takes no
 // memory.
 fn put_with<L: Log>(
-    alloc: Global,
     sticky_log: &mut StickyLog<L>,
     accesses: &mut Accesses,
     roots: &mut Meta,
@@ -192,19 +188,19 @@ fn put_with<L: Log>(
     // Every map keeps the limits.
     let _ = roots.len();
     if let Some(former) = roots.replace_root(name, root) {
-        let written = put_map(alloc, sticky_log, accesses, roots, stamp);
+        let written = put_map(sticky_log, accesses, roots, stamp);
         if written.is_err() {
             roots.replace_root(name, former);
         }
         return written;
     }
-    let Ok(copy) = Vec::from_slice(alloc, name) else {
+    let Ok(copy) = Vec::from_slice(sticky_log.alloc, name) else {
         return Err(Refusal::OutOfMemory);
     };
     let Ok(_) = roots.put_root(copy, root) else {
         return Err(Refusal::OutOfMemory);
     };
-    let written = put_map(alloc, sticky_log, accesses, roots, stamp);
+    let written = put_map(sticky_log, accesses, roots, stamp);
     if written.is_err() {
         roots.del_root(name);
     }
@@ -213,7 +209,6 @@ fn put_with<L: Log>(
 
 // Writes the map as it is.
 fn put_map<L: Log>(
-    alloc: Global,
     sticky_log: &mut StickyLog<L>,
     accesses: &mut Accesses,
     roots: &Meta,
@@ -225,7 +220,7 @@ fn put_map<L: Log>(
     ensures { WritesMap L.Log sticky_log.old sticky_log.new accesses.old accesses.new
         (written_roots roots.now) stamp result }
 {
-    let Ok(payload) = roots.serialize(alloc) else {
+    let Ok(payload) = roots.serialize(sticky_log.alloc) else {
         return Err(Refusal::OutOfMemory);
     };
     put_payload(sticky_log, accesses, &payload, stamp)

@@ -19,10 +19,13 @@ ghost use Rattle.sled_pagecache.specs.Inside.StickyLog.{Went, IsCaused, IsOfLog,
 
 use sled_base::{BlobPointer, DiskPtr, LogOffset, Lsn, MessageKind, PageId, PageState, Refusal};
 use sled_log::{Log, LogError, Payload};
+use std::alloc::Global;
 
 /// The log of a cache, whether a batch is open, and whether a write error was met. After a write error the log is never called again.
+/// What is made of its messages, and they themselves, take memory from its allocator.
 #[derive(Drop)]
 pub(crate) struct StickyLog<L> {
+    pub(crate) alloc: Global,
     pub(crate) log: L,
     pub(crate) fault: bool,
     pub(crate) batch: bool,

@@ -10,7 +10,7 @@ use Rattle.sled_pagecache.proofs.pagecache.calls.PageCache.start.Goals as goal
 -- there is no memory for the list of recent use
 pub returns-in_default-new-clause-opens : goal.returns-in_default-new-clause-opens
 returns-in_default-new-clause-opens g c =
-    let before : StickyLog g.row.L.Denot = record { log = c.args.log; fault = false; batch = false } in
+    let before : StickyLog g.row.L.Denot = record { alloc = c.args.alloc; log = c.args.log; fault = false; batch = false } in
     let chains = log_now effect_of_entry (g.L.Log.state c.args.log) in
     λ sound told held logged.
     opens-refused g.L.Log told c.args.config before held logged before OutOfMemory sound
