@@ -5,7 +5,7 @@
 #     bench/measure_batches.sh >batches_table.md && bench/publish.sh batches_table.md
 #
 # DISK is a folder on a disk (/var/tmp), in which all is made in a new one that goes at the end. CHANGES says how many a batch has (`1000 10000
-# 100000 1000000`), and RUNS how often each is made (3). It needs cargo, strace and liblmdb-dev.
+# 100000 1000000`), and RUNS how often each is made (3). DILLUVAS_LIB_DIR is as in measure_library.sh. It needs cargo, strace and liblmdb-dev.
 set -eu
 
 [ "${1-}" != --help ] || { sed -n '2,/^[^#]/s/^# \{0,1\}//p' "$0"; exit; }
@@ -18,7 +18,7 @@ disk=$(mktemp -d "${DISK:-/var/tmp}/batches-XXXXXX")
 trap 'rm -rf "$disk"' EXIT
 trap 'exit 1' HUP INT TERM
 
-"$top/bindings/build.sh" >&2
+[ -n "${DILLUVAS_LIB_DIR:-}" ] || "$top/bindings/build.sh" >&2
 target=${CARGO_TARGET_DIR:-$top/bindings/out/target}
 (cd "$top/bench/library" && CARGO_TARGET_DIR=$target cargo build --release --offline -q)
 program=$target/release/library

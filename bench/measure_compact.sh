@@ -4,7 +4,8 @@
 #
 #     bench/measure_compact.sh >compact_table.md && bench/publish.sh compact_table.md
 #
-# DISK is a folder on a disk (/var/tmp), in which all is made in a new one that goes at the end. It needs cargo and liblmdb-dev.
+# DISK is a folder on a disk (/var/tmp), in which all is made in a new one that goes at the end. DILLUVAS_LIB_DIR is as in
+# measure_library.sh. It needs cargo and liblmdb-dev.
 set -eu
 
 [ "${1-}" != --help ] || { sed -n '2,/^[^#]/s/^# \{0,1\}//p' "$0"; exit; }
@@ -17,7 +18,7 @@ disk=$(mktemp -d "${DISK:-/var/tmp}/compact-XXXXXX")
 trap 'rm -rf "$disk"' EXIT
 trap 'exit 1' HUP INT TERM
 
-"$top/bindings/build.sh" >&2
+[ -n "${DILLUVAS_LIB_DIR:-}" ] || "$top/bindings/build.sh" >&2
 (cd "$top/bench/library" && CARGO_TARGET_DIR=$top/bindings/out/target cargo build --release --offline -q)
 load_before=$(cut -d ' ' -f 1-3 /proc/loadavg)
 "$top/bindings/out/target/release/library" --compact "$disk" >"$disk/figures"

@@ -5,7 +5,7 @@
 #     bench/measure_library.sh >library_table.md && bench/publish.sh library_table.md
 #
 # MEMORY is a folder in memory (/dev/shm) and DISK one on a disk (/var/tmp). Everything is made in new folders there, which go at
-# the end. It needs cargo and liblmdb-dev.
+# the end. DILLUVAS_LIB_DIR is a folder with a built library in place of this checkout's. It needs cargo and liblmdb-dev.
 set -eu
 
 [ "${1-}" != --help ] || { sed -n '2,/^[^#]/s/^# \{0,1\}//p' "$0"; exit; }
@@ -19,7 +19,7 @@ disk=$(mktemp -d "${DISK:-/var/tmp}/library-XXXXXX")
 trap 'rm -rf "$memory" "$disk"' EXIT
 trap 'exit 1' HUP INT TERM
 
-"$top/bindings/build.sh" >&2
+[ -n "${DILLUVAS_LIB_DIR:-}" ] || "$top/bindings/build.sh" >&2
 (cd "$top/bench/library" && CARGO_TARGET_DIR=$top/bindings/out/target cargo build --release --offline -q)
 load_before=$(cut -d ' ' -f 1-3 /proc/loadavg)
 "$top/bindings/out/target/release/library" "$memory" "$disk" >"$memory/figures"
