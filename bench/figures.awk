@@ -67,6 +67,11 @@ function own(figures, script, whose) {
     return least(figures, script, whose) - least(figures, setup_of[script], whose)
 }
 
+# The microseconds of a line, by processor time.
+function line_time(script, whose) {
+    return own(time, script, whose) / lines_of[script]
+}
+
 # What is left of a script without its setup says nothing below a twentieth of that, and little below a fifth or five milliseconds. Nor
 # does a script say anything of a program that didn't run it, or one that has no lines, as a small COUNT gives it.
 function is_nothing(figures, script, whose) {

@@ -40,15 +40,11 @@ long=${LONG:-$work/long}
 
 check_examples
 measure nothing nothing
-while read -r listed setup_of_listed _; do
-    measure "$setup_of_listed" nothing
-    measure "$listed" "$setup_of_listed"
-done <"$list"
+measure_listed
 
 print_machine >"$work/machine"
 part memory docs/BENCHMARKS.md
 draw memory_tables.awk page
 part memory bench/results/memory.md
 draw memory_tables.awk others
-draw chart.awk >"$chart"
-say "the chart is in $chart"
+draw_chart "$chart" 'gets links_1000 pairs_1000000 large_1000 flushes_10' "$programs" one

@@ -8,7 +8,8 @@
 # replies otherwise, ends all with a message. It needs g++ and awk; a store whose package is missing is left out, and named as that.
 # COUNTS is how many keys the scripts have (`10000 100000`), SIZES how many bytes a key and a value have (`8/8 8/100 16/8 16/100`), FOLDER a
 # folder on a disk (/var/tmp), PROGRAM a binary to measure in place of this checkout's, PROGRAMS which of `dilluvas plain_map lmdb lmdb_each
-# sqlite rocksdb` run, in order, and KINDS which of `random rising gets scans removals filled flushes_1 flushes_100 flushes_10000`.
+# sqlite rocksdb` run, in order, KINDS which of `random rising gets scans removals filled flushes_1 flushes_100 flushes_10000`, and CHART where
+# the chart goes (docs/maps.svg), which has inserts, gets and scans with the greatest of COUNTS and the first of SIZES.
 set -eu
 
 [ "${1-}" != --help ] || { sed -n '2,/^[^#]/s/^# \{0,1\}//p' "$0"; exit; }
@@ -19,6 +20,7 @@ sizes=${SIZES:-8/8 8/100 16/8 16/100}
 kinds=${KINDS:-random rising gets scans removals filled flushes_1 flushes_100 flushes_10000}
 folder=${FOLDER:-/var/tmp}
 count=$counts
+chart=${CHART:-$top/docs/maps.svg}
 . "$top/bench/shared.sh"
 . "$bench/maps/scripts.sh"
 program=${PROGRAM:-$top/crates/dilluvas/out/dilluvas}
@@ -64,6 +66,24 @@ chosen() {
     done
 }
 
+# both LIST OTHER: the words of the first list that are in the other too
+both() {
+    for word in $1; do
+        ! echo "$2" | tr ' ' '\n' | grep -qx "$word" || printf '%s ' "$word"
+    done
+}
+
+# The chart: of the greatest count and the first size, if `dilluvas` and one of its scripts ran.
+draw_maps() {
+    most=$(echo "$counts" | tr ' ' '\n' | sort -n | tail -n 1)
+    cells=$most-$(echo "${sizes%% *}" | tr / -)
+    drawn=$(both "random-$cells gets-$cells scans-$cells" "$(cut -d ' ' -f 1 "$list")")
+    shown=$(both 'dilluvas lmdb sqlite rocksdb' "$programs")
+    case $shown-$drawn in
+    dilluvas*-?*) draw_chart "$chart" "$drawn" "$shown" each ;;
+    esac
+}
+
 need g++ awk find
 [ -d /dev/shm ] || die 'it needs /dev/shm, where all files are in memory'
 [ -d "$folder" ] || die "there is no folder $folder, which FOLDER names"
@@ -80,10 +100,7 @@ case " $programs " in
 esac
 
 check_examples "$bench/maps/examples"
-while read -r listed setup_of_listed _; do
-    measure "$setup_of_listed" "$(setup_of "$setup_of_listed")"
-    measure "$listed" "$setup_of_listed"
-done <"$list"
+measure_listed
 
 print_machine | sed 's/COUNT=/COUNTS=/' >"$work/machine"
 echo "Files on $(df -PT "$folder" | awk 'NR == 2 { print $2, $1 }'), below $folder." >>"$work/machine"
@@ -91,3 +108,4 @@ part maps docs/BENCHMARKS.md
 draw maps/tables.awk page
 part maps bench/results/maps.md
 draw maps/tables.awk others
+draw_maps

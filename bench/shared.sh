@@ -1,4 +1,4 @@
-# What measure.sh, measure_file.sh, measure_threads.sh and measure_maps.sh share. Each sets `top`, `count` and `list`, sources this, and then has
+# What measure.sh, measure_counts.sh, measure_file.sh, measure_threads.sh and measure_maps.sh share. Each sets `top`, `count` and `list`, sources this, and then has
 #
 #     start NAME SCRIPT INPUT    runs the program over the file INPUT with `timed`, from nothing kept; $work/out gets its replies,
 #                                and $work/report what `timed` says
@@ -124,6 +124,14 @@ measure() {
     run_all "$1"
 }
 
+# measure_listed: measures each script of the list after its setup
+measure_listed() {
+    while read -r listed setup_of_listed _; do
+        measure "$setup_of_listed" "$(setup_of "$setup_of_listed")"
+        measure "$listed" "$setup_of_listed"
+    done <"$list"
+}
+
 # print_machine [PACKAGE..]: where and when it was measured, and with which packages, these among them
 print_machine() {
     echo "Measured on $(date +%Y-%m-%d): $(sed -n 's/^model name[^:]*: //p' /proc/cpuinfo | head -n 1)," \
@@ -145,4 +153,12 @@ part() {
 # draw FILE [TABLES]: what this file of awk prints of the results: of the tables the one for docs/BENCHMARKS.md (page), or the others
 draw() {
     awk -f "$bench/figures.awk" -f "$bench/tables.awk" -f "$bench/$1" -v programs="$programs" -v tables="${2-}" "$list" "$work/results"
+}
+
+# draw_chart FILE SCRIPTS PROGRAMS SCALES: the file gets the chart of these scripts and programs. SCALES is `one` where all bars have one
+# scale, or `each` where each script has its own.
+draw_chart() {
+    awk -f "$bench/figures.awk" -f "$bench/chart.awk" -v scripts="$2" -v programs="$3" -v scales="$4" "$list" "$work/results" >"$work/chart"
+    mv "$work/chart" "$1"
+    say "the chart is in $1"
 }
