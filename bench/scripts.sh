@@ -15,10 +15,11 @@ whole_script() {
     script_lines "$1"
 }
 
-# script_lines NAME: the lines of a script or of a setup
+# script_lines NAME: the lines of a script or of a setup. A name may end with a count of its own, as `gets-60000`.
 script_lines() {
     case $1 in
     nothing) ;;
+    *-*) (count=${1##*-} && script_lines "${1%-*}") ;;
     absent) absent "$count" ;;
     gets) rounds 1000 "$count" 0 1 ;;
     links_*) rounds "${1#links_}" "$count" 2 1 ;;

@@ -1,13 +1,17 @@
 # What the tables of memory_tables.awk and file_tables.awk are made of.
 
-# head(FIRST, FROM): the head of a table, of the columns FIRST and then the programs from this one on
-function head(first, from,    i, line, rule) {
+# head(FIRST, FROM, [LAST]): the head of a table, of the columns FIRST and then the programs from this one on, and a last column
+function head(first, from, last,    i, line, rule) {
     line = first
     rule = "|---|"
     gsub(/[^|]/, "", first)
     gsub(/./, "---|", first)
     for (i = from; i <= program_count; i++) {
         line = line " | " title_of[program[i]]
+        first = first "---|"
+    }
+    if (last) {
+        line = line " | " last
         first = first "---|"
     }
     print "| " line " |"
