@@ -38,6 +38,7 @@ use super::table::boxed_node::EmptyLeaf;
 use super::table::free_ids::FreeIds;
 use super::table::pagetable::PageTable;
 use super::write::sticky_log::StickyLog;
+use super::write::writer::Writer;
 use sled_base::{Device, Error, Lru, Why};
 use sled_log::Log;
 use std::alloc::Global;
@@ -61,8 +62,7 @@ pub struct PageCache<L: Log> {
     next: u128,
     pages: PageTable,
     free: FreeIds,
-    sticky_log: StickyLog<L>,
-    accesses: Accesses,
+    writer: Writer<L>,
     // lent in the place of each empty leaf
     empty: EmptyLeaf,
 }
@@ -74,9 +74,9 @@ impl<L: Log> Model for PageCache<L> {
 
     ghost use Rattle.sled_pagecache.specs.Inside.Eviction.{cache_of, IsSettled};
 
-    ghost view = { λ c. cache_of c.next c.config c.recovered c.accesses.lru c.sticky_log c.pages.pages };
+    ghost view = { λ c. cache_of c.next c.config c.recovered c.writer.accesses.lru c.writer.sticky_log c.pages.pages };
 
-    ghost invariant = { λ c. IsSettled L.Log c.next c.config c.recovered c.sticky_log c.pages.pages c.free.ids.keys c.accesses };
+    ghost invariant = { λ c. IsSettled L.Log c.next c.config c.recovered c.writer.sticky_log c.pages.pages c.free.ids.keys c.writer.accesses };
 }
 
 impl<L: Log> PageCache<L> {
@@ -137,10 +137,12 @@ impl<L: Log> PageCache<L> {
                 next: opening.next,
                 pages: opening.pages,
                 free: opening.free,
-                sticky_log,
-                accesses: Accesses {
-                    lru,
-                    dropped: Dropped::none(alloc),
+                writer: Writer {
+                    sticky_log,
+                    accesses: Accesses {
+                        lru,
+                        dropped: Dropped::none(alloc),
+                    },
                 },
                 empty: EmptyLeaf::new(alloc),
             }),
@@ -172,13 +174,13 @@ impl<L: Log> PageCache<L> {
         ensures same { KeepsMemory self.old self.new }
         ensures unnamed { IfErr result HasNoName }
     {
-        if self.sticky_log.fault {
+        if self.writer.sticky_log.fault {
             return Err(Error::Io(Device::Write));
         }
-        if self.sticky_log.batch {
+        if self.writer.sticky_log.batch {
             return Err(Error::Unsupported(Why::BatchOpen));
         }
-        Ok(self.sticky_log.make_stable()?)
+        Ok(self.writer.sticky_log.make_stable()?)
     }
 
     /// Returns how many bytes the log has. A log on a disk counts the bytes that are written; the log in memory also counts what is
@@ -191,10 +193,10 @@ impl<L: Log> PageCache<L> {
         ensures size { IfOk result (λ size. size ≡ L.bytes self.now.log) }
         ensures unnamed { IfErr result HasNoName }
     {
-        if self.sticky_log.fault {
+        if self.writer.sticky_log.fault {
             return Err(Error::Io(Device::Write));
         }
-        Ok(self.sticky_log.log.size())
+        Ok(self.writer.sticky_log.log.size())
     }
 
     /// Ends the cache, of which no batch is open, and returns its log. It flushes nothing, and can't fail.
@@ -205,21 +207,23 @@ impl<L: Log> PageCache<L> {
         ensures log { result ≡ self.log }
         ensures again { self.fault ≡ false → MayBeOpened L.Log result }
     {
-        self.sticky_log.log
+        self.crashed_log()
     }
 
     /// Returns a reference to the log, for inspection: how often it was read, or what a log on a disk offers besides the calls of `Log`.
     pub fn log(&self) -> &L
         ensures { result.now ≡ self.now.log }
     {
-        &self.sticky_log.log
+        &self.writer.sticky_log.log
     }
 
     // Its log as a crash finds it: a batch may be open.
     pub(crate) fn crashed_log(self) -> L
         ensures { result ≡ self.log }
     {
-        self.sticky_log.log
+        let writer = self.writer;
+        let sticky_log = writer.sticky_log;
+        sticky_log.log
     }
 
     // Every cache has both system pages. Nothing is done.
@@ -231,7 +235,7 @@ impl<L: Log> PageCache<L> {
 
     // What the cache allocates by.
     pub(crate) fn alloc(&self) -> Global {
-        self.sticky_log.alloc
+        self.writer.sticky_log.alloc
     }
 
     // Every cache lists what lies in memory. Nothing is done.

@@ -8,6 +8,7 @@
 //! - `page_copies`: writing all pages to another log
 //! - `message`: writing the messages of a page to the log
 //! - `sticky_log`: the log of a cache, with its sticky write error
+//! - `writer`: that log and the accesses of pages, which each function takes that changes a page
 
 pub(crate) mod counter_page;
 pub(crate) mod message;
@@ -19,3 +20,4 @@ pub(crate) mod page_swap;
 pub(crate) mod root_page;
 pub(crate) mod sticky_log;
 pub(crate) mod token_check;
+pub(crate) mod writer;

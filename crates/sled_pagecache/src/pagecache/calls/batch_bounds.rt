@@ -15,7 +15,7 @@ impl<L: Log> PageCache<L> {
     pub fn batch_open(&self) -> bool
         ensures { result ≡ self.now.batch }
     {
-        self.sticky_log.batch
+        self.writer.sticky_log.batch
     }
 
     /// Opens a batch, for callers that can't hold a guard across the changes. The batch stays open until `seal` or `cancel`. The compiler
@@ -28,14 +28,14 @@ impl<L: Log> PageCache<L> {
         ensures opens { OpensBatch L.Log self.old result self.new }
         ensures bounded { IsBounded L.Log self.new }
     {
-        if self.sticky_log.fault {
+        if self.writer.sticky_log.fault {
             return Err(Error::Io(Device::Write));
         }
-        if self.sticky_log.batch {
+        if self.writer.sticky_log.batch {
             return Err(Error::Unsupported(Why::BatchOpen));
         }
-        self.sticky_log.pin()?;
-        self.sticky_log.batch = true;
+        self.writer.sticky_log.pin()?;
+        self.writer.sticky_log.batch = true;
         Ok(())
     }
 
@@ -70,10 +70,10 @@ impl<L: Log> PageCache<L> {
             self.new }
         ensures bounded { IsBounded L.Log self.new }
     {
-        self.sticky_log.batch = false;
-        if self.sticky_log.fault {
+        self.writer.sticky_log.batch = false;
+        if self.writer.sticky_log.fault {
             return Err(Error::Io(Device::Write));
         }
-        Ok(self.sticky_log.close(closing)?)
+        Ok(self.writer.sticky_log.close(closing)?)
     }
 }

@@ -17,11 +17,11 @@ impl<L: Log> PageCache<L> {
     pub fn shape(&self) -> Result<Shape, AllocError>
         ensures { IfOk result (Shows L.Log self.now) }
     {
-        let pages = shapes_of(self.sticky_log.alloc, &self.pages)?;
+        let pages = shapes_of(self.writer.sticky_log.alloc, &self.pages)?;
         Ok(Shape {
             pages,
             next: self.next,
-            fault: self.sticky_log.fault,
+            fault: self.writer.sticky_log.fault,
         })
     }
 }

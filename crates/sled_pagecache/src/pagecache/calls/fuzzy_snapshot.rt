@@ -27,13 +27,13 @@ impl<L: Log> PageCache<L> {
         ensures snapshot { IfOk result (IsSnapshot L.Log self.now) }
         ensures unnamed { IfErr result HasNoName }
     {
-        if self.sticky_log.fault {
+        if self.writer.sticky_log.fault {
             return Err(Error::Io(Device::Write));
         }
         Ok(Snapshot {
-            stable_lsn: Some(self.sticky_log.log.stable_offset()),
+            stable_lsn: Some(self.writer.sticky_log.log.stable_offset()),
             active_segment: None,
-            pt: states_of(self.sticky_log.alloc, &self.pages)?,
+            pt: states_of(self.writer.sticky_log.alloc, &self.pages)?,
         })
     }
 }

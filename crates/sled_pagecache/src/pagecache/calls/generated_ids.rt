@@ -31,7 +31,7 @@ impl<L: Log> PageCache<L> {
         ensures always { self.now.fault ≡ false → IsOk result }
         ensures unnamed { IfErr result HasNoName }
     {
-        if self.sticky_log.fault {
+        if self.writer.sticky_log.fault {
             return Err(Error::Io(Device::Write));
         }
         Ok(own_counter(&self.pages))
@@ -62,7 +62,7 @@ impl<L: Log> PageCache<L> {
         ensures leaves { IfErr result (EvictsAtMost self.old counter_pid self.new L.tells) }
         ensures unnamed { IfErr result HasNoName }
     {
-        if self.sticky_log.fault {
+        if self.writer.sticky_log.fault {
             return Err(Error::Io(Device::Write));
         }
         if self.next > u64::MAX as u128 {
@@ -76,19 +76,22 @@ impl<L: Log> PageCache<L> {
             self.next += 1;
             return Ok(id);
         }
-        if self.sticky_log.batch {
+        if self.writer.sticky_log.batch {
             return Err(Error::Unsupported(Why::BatchOpen));
         }
-        let (log, accesses) = (&mut self.sticky_log, &mut self.accesses);
         let page = self.pages.get_mut(COUNTER_PID);
-        match put_counter(log, accesses, page, start) {
+        match put_counter(&mut self.writer, page, start) {
             Ok(()) => {
                 self.next += 1;
-                evict(&mut self.pages, &mut self.accesses, None);
+                evict(&mut self.pages, &mut self.writer.accesses, None);
                 Ok(id)
             }
             Err(refusal) => {
-                evict(&mut self.pages, &mut self.accesses, Some(COUNTER_PID));
+                evict(
+                    &mut self.pages,
+                    &mut self.writer.accesses,
+                    Some(COUNTER_PID),
+                );
                 Err(Error::from(refusal))
             }
         }

@@ -23,10 +23,10 @@ impl<L: Log> PageCache<L> {
     pub fn attempt_gc(&mut self) -> Result<bool, Error>
         ensures { AttemptsMove L.Log self.old result self.new }
     {
-        if self.sticky_log.fault {
+        if self.writer.sticky_log.fault {
             return Err(Error::Io(Device::Write));
         }
-        let Some((pid, place)) = self.sticky_log.to_move() else {
+        let Some((pid, place)) = self.writer.sticky_log.to_move() else {
             return Ok(false);
         };
         let Some(page) = self.pages.get(pid) else {
@@ -35,9 +35,8 @@ impl<L: Log> PageCache<L> {
         if !lies_in(self.config, place, page.cache_infos()) {
             return Ok(true);
         }
-        let (log, accesses) = (&mut self.sticky_log, &mut self.accesses);
         let page = self.pages.get_mut(pid);
-        let moved = move_page(log, accesses, pid, page);
-        end_move(&mut self.pages, &mut self.accesses, pid, moved)
+        let moved = move_page(&mut self.writer, pid, page);
+        end_move(&mut self.pages, &mut self.writer.accesses, pid, moved)
     }
 }

@@ -30,7 +30,7 @@ impl<L: Log> PageCache<L> {
             × (slice_get self.now.stamps meta_pid ≡ Some view.token.stamp)) }
         ensures always { self.now.fault ≡ false → IsOk result }
     {
-        let view = own_roots(self.sticky_log.fault, &self.pages)?;
+        let view = own_roots(self.writer.sticky_log.fault, &self.pages)?;
         Ok(view)
     }
 
@@ -44,11 +44,11 @@ impl<L: Log> PageCache<L> {
         ensures keeps { Keeps self.now self.now result (λ _. self.now.stamps) }
         ensures named { IfErr result (NamesOnly name.now) }
     {
-        let view = own_roots(self.sticky_log.fault, &self.pages)?;
+        let view = own_roots(self.writer.sticky_log.fault, &self.pages)?;
         if let Some(root) = view.meta().get_root(name) {
             return Ok(root);
         }
-        let copy = IVec::from_slice(self.sticky_log.alloc, name)?;
+        let copy = IVec::from_slice(self.writer.sticky_log.alloc, name)?;
         Err(Error::CollectionNotFound(copy))
     }
 
@@ -81,20 +81,19 @@ impl<L: Log> PageCache<L> {
         ensures leaves { IfErr result (EvictsAtMost self.old meta_pid self.new L.tells) }
         ensures unnamed { IfErr result HasNoName }
     {
-        let view = own_roots(self.sticky_log.fault, &self.pages)?;
+        let view = own_roots(self.writer.sticky_log.fault, &self.pages)?;
         match judge_root(view.meta(), name, old, new)? {
             Err(root) => return Ok(Err(root)),
             Ok(()) => {}
         }
-        let (log, accesses) = (&mut self.sticky_log, &mut self.accesses);
         let page = self.pages.get_mut(META_PID);
-        match swap_root(log, accesses, page, name, new) {
+        match swap_root(&mut self.writer, page, name, new) {
             Ok(()) => {
-                evict(&mut self.pages, &mut self.accesses, None);
+                evict(&mut self.pages, &mut self.writer.accesses, None);
                 Ok(Ok(()))
             }
             Err(refusal) => {
-                evict(&mut self.pages, &mut self.accesses, Some(META_PID));
+                evict(&mut self.pages, &mut self.writer.accesses, Some(META_PID));
                 Err(Error::from(refusal))
             }
         }

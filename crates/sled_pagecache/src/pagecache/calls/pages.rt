@@ -59,20 +59,19 @@ impl<L: Log> PageCache<L> {
         ensures leaves { IfErr result (LeavesNodes L.tells self.old self.new) }
         ensures unnamed { IfErr result HasNoName }
     {
-        let stuck = self.sticky_log.fault;
+        let stuck = self.writer.sticky_log.fault;
         if stuck {
             return Err(Error::Io(Device::Write));
         }
-        let (log, accesses) = (&mut self.sticky_log, &mut self.accesses);
         let Some(pid) = self.free.greatest() else {
             let token = PageView::new(self.pages.len() as PageId, 1);
-            let added = add_page(log, accesses, &mut self.pages, node);
-            return end_allocation(&mut self.pages, &mut self.accesses, token, added);
+            let added = add_page(&mut self.writer, &mut self.pages, node);
+            return end_allocation(&mut self.pages, &mut self.writer.accesses, token, added);
         };
         let page = self.pages.get_mut(pid);
-        let reused = reuse_page(log, accesses, &mut self.free, pid, page, node);
+        let reused = reuse_page(&mut self.writer, &mut self.free, pid, page, node);
         let token = PageView::new(pid, page.stamp);
-        end_allocation(&mut self.pages, &mut self.accesses, token, reused)
+        end_allocation(&mut self.pages, &mut self.writer.accesses, token, reused)
     }
 
     /// Returns a reference to the node of a page, with the page's token. It returns None if the page is absent or free.
@@ -193,15 +192,14 @@ impl<L: Log> PageCache<L> {
         ensures leaves { IfErr result (EvictsAtMost self.old pid self.new L.tells) }
         ensures unnamed { IfErr result HasNoName }
     {
-        match judge(self.sticky_log.fault, &self.pages, pid, old) {
+        match judge(self.writer.sticky_log.fault, &self.pages, pid, old) {
             Ok(()) => {}
             Err(rejection) => return rejection.answer(()),
         }
-        let (log, accesses) = (&mut self.sticky_log, &mut self.accesses);
         let page = self.pages.get_mut(pid);
-        let freed = free_page(log, accesses, &mut self.free, pid, page);
+        let freed = free_page(&mut self.writer, &mut self.free, pid, page);
         let token = PageView::new(pid, page.stamp);
-        end_swap(&mut self.pages, &mut self.accesses, token, freed)
+        end_swap(&mut self.pages, &mut self.writer.accesses, token, freed)
     }
 
     // Refuses what can't be read, reads the page from the log where it doesn't lie in memory, and accesses it.
@@ -217,7 +215,7 @@ impl<L: Log> PageCache<L> {
         ensures accesses { OnOk result (FindsPage self.old pid self.new) }
         ensures same { OnErr result (KeepsMemory self.old self.new) }
     {
-        if self.sticky_log.fault {
+        if self.writer.sticky_log.fault {
             return Err(Refusal::Io(Device::Write));
         }
         if is_reserved(pid) {
@@ -227,10 +225,9 @@ impl<L: Log> PageCache<L> {
         if pid >= count {
             return Ok(());
         }
-        let (log, accesses) = (&mut self.sticky_log, &mut self.accesses);
         let page = self.pages.get_mut(pid);
-        let read = pull_and_access(log, accesses, pid, page);
-        evict(&mut self.pages, &mut self.accesses, None);
+        let read = pull_and_access(&mut self.writer, pid, page);
+        evict(&mut self.pages, &mut self.writer.accesses, None);
         read
     }
 

@@ -58,19 +58,19 @@ impl<L: Log> PageCache<L> {
             (messages_away (now effect_of_entry (L.state self.old.log)) self.old.resident) result }
         ensures unnamed { IfErr result (λ e. HasNoName e.0) }
     {
-        if self.sticky_log.fault {
+        if self.writer.sticky_log.fault {
             return Err((Error::Io(Device::Write), into));
         }
-        if self.sticky_log.batch {
+        if self.writer.sticky_log.batch {
             return Err((Error::Unsupported(Why::BatchOpen), into));
         }
         let mut copy = StickyLog {
-            alloc: self.sticky_log.alloc,
+            alloc: self.writer.sticky_log.alloc,
             log: into,
             fault: false,
             batch: false,
         };
-        match copy_pages(&mut self.sticky_log, &self.pages, &mut copy) {
+        match copy_pages(&mut self.writer.sticky_log, &self.pages, &mut copy) {
             Ok(()) => Ok(copy.log),
             Err(refusal) => Err((Error::from(refusal), copy.log)),
         }

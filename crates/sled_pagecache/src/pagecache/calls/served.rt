@@ -19,7 +19,7 @@ impl<F: CallersFile> PageCache<DiskLog<StagedDisk<F>>> {
         ensures served { IsServed ⟦<DiskLog<StagedDisk<F>> as Log>⟧ self.old self.new }
         ensures state { StaysAsItIs ⟦<DiskLog<StagedDisk<F>> as Log>⟧ self.old self.new }
     {
-        self.sticky_log.log.next_task(into)
+        self.writer.sticky_log.log.next_task(into)
     }
 
     /// Hands in bytes of the file, starting at a place: `StagedDisk::hand_in`.
@@ -31,7 +31,7 @@ impl<F: CallersFile> PageCache<DiskLog<StagedDisk<F>>> {
         ensures served { IsServed ⟦<DiskLog<StagedDisk<F>> as Log>⟧ self.old self.new }
         ensures state { StaysAsItIs ⟦<DiskLog<StagedDisk<F>> as Log>⟧ self.old self.new }
     {
-        self.sticky_log.log.hand_in(at, bytes)
+        self.writer.sticky_log.log.hand_in(at, bytes)
     }
 
     /// Drops the bytes that were handed in, and what was needed: `StagedDisk::forget`.
@@ -40,7 +40,7 @@ impl<F: CallersFile> PageCache<DiskLog<StagedDisk<F>>> {
         ensures served { IsServed ⟦<DiskLog<StagedDisk<F>> as Log>⟧ self.old self.new }
         ensures state { StaysAsItIs ⟦<DiskLog<StagedDisk<F>> as Log>⟧ self.old self.new }
     {
-        self.sticky_log.log.forget();
+        self.writer.sticky_log.log.forget();
     }
 
     /// Reports that a write or a sync of the caller failed: `StagedDisk::fail`. No task is returned any more, and each later write or sync
@@ -50,6 +50,6 @@ impl<F: CallersFile> PageCache<DiskLog<StagedDisk<F>>> {
         ensures served { IsServed ⟦<DiskLog<StagedDisk<F>> as Log>⟧ self.old self.new }
         ensures state { StaysAsItIs ⟦<DiskLog<StagedDisk<F>> as Log>⟧ self.old self.new }
     {
-        self.sticky_log.log.fail();
+        self.writer.sticky_log.log.fail();
     }
 }

@@ -39,11 +39,11 @@ impl<L: Log> PageCache<L> {
         ensures bounded { IsBounded L.Log self.new }
         ensures unnamed { IfErr result HasNoName }
     {
-        if self.sticky_log.fault {
+        if self.writer.sticky_log.fault {
             return Err(Error::Io(Device::Write));
         }
-        let on_disk = self.sticky_log.log.size();
-        let pages = total_rss(&mut self.sticky_log, &self.pages)?;
+        let on_disk = self.writer.sticky_log.log.size();
+        let pages = total_rss(&mut self.writer.sticky_log, &self.pages)?;
         Ok((on_disk, pages + self.config.segment_size as u128))
     }
 

@@ -63,12 +63,11 @@ impl<L: Log> PageCache<L> {
             (EvictsAtMost self.old pid self.new L.tells) }
         ensures unnamed { IfErr (link_answer result link.now) HasNoName }
     {
-        judge(self.sticky_log.fault, &self.pages, pid, old)?;
-        let (log, accesses) = (&mut self.sticky_log, &mut self.accesses);
+        judge(self.writer.sticky_log.fault, &self.pages, pid, old)?;
         let page = self.pages.get_mut(pid);
-        let linked = pull_and_link(log, accesses, pid, page, link);
+        let linked = pull_and_link(&mut self.writer, pid, page, link);
         let token = PageView::new(pid, page.stamp);
-        end_link(&mut self.pages, &mut self.accesses, token, linked)
+        end_link(&mut self.pages, &mut self.writer.accesses, token, linked)
     }
 
     // Puts a node on a page, as `replace` says.
@@ -95,14 +94,13 @@ impl<L: Log> PageCache<L> {
         ensures leaves { IfErr result (EvictsAtMost self.old pid self.new L.tells) }
         ensures unnamed { IfErr result HasNoName }
     {
-        match judge(self.sticky_log.fault, &self.pages, pid, old) {
+        match judge(self.writer.sticky_log.fault, &self.pages, pid, old) {
             Ok(()) => {}
             Err(rejection) => return rejection.answer(node),
         }
-        let (log, accesses) = (&mut self.sticky_log, &mut self.accesses);
         let page = self.pages.get_mut(pid);
-        let put = put_node(log, accesses, pid, page, node);
+        let put = put_node(&mut self.writer, pid, page, node);
         let token = PageView::new(pid, page.stamp);
-        end_swap(&mut self.pages, &mut self.accesses, token, put)
+        end_swap(&mut self.pages, &mut self.writer.accesses, token, put)
     }
 }

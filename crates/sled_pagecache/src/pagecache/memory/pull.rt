@@ -18,6 +18,7 @@ use crate::pagecache::memory::chain::read_node;
 use crate::pagecache::table::page_entry::{Page, PageContent, total_size};
 use crate::pagecache::write::page_link::link_page;
 use crate::pagecache::write::sticky_log::StickyLog;
+use crate::pagecache::write::writer::Writer;
 use sled_base::{PageId, Refusal};
 use sled_log::Log;
 use sled_node::Link;
@@ -43,22 +44,21 @@ pub(crate) fn pull<L: Log>(
 // Reads the node of a page and accesses the page, which takes no memory where it is listed with its size. What a refused access has
 // read isn't kept.
 pub(crate) fn pull_and_access<L: Log>(
-    sticky_log: &mut StickyLog<L>,
-    accesses: &mut Accesses,
+    writer: &mut Writer<L>,
     pid: PageId,
     page: &mut Page,
 ) -> Result<(), Refusal>
-    requires ready { IsReady L.Log sticky_log.old }
-    requires kept { L.tells → IsKept (chain_at (L.state sticky_log.old.log) pid) page.old }
-    ensures pulled { PullsPage L.Log sticky_log.old pid page.old sticky_log.new page.new result }
-    ensures left { OnErr result (accesses.new ≡ accesses.old) }
-    ensures is_there { is_resident page.old.kept ≡ true → IsListedAt pid page.old accesses.old.lru
+    requires ready { IsReady L.Log writer.old.sticky_log }
+    requires kept { L.tells → IsKept (chain_at (L.state writer.old.sticky_log.log) pid) page.old }
+    ensures pulled { PullsPage L.Log writer.old.sticky_log pid page.old writer.new.sticky_log page.new result }
+    ensures left { OnErr result (writer.new.accesses ≡ writer.old.accesses) }
+    ensures is_there { is_resident page.old.kept ≡ true → IsListedAt pid page.old writer.old.accesses.lru
         → IsOk result }
-    ensures accessed { OnOk result (AccessesNode accesses.old pid page.new accesses.new) }
+    ensures accessed { OnOk result (AccessesNode writer.old.accesses pid page.new writer.new.accesses) }
 {
     let was_away = matches!(page.kept, PageContent::OnLog);
-    pull(sticky_log, pid, page)?;
-    let outcome = access_node(accesses, pid, page);
+    pull(&mut writer.sticky_log, pid, page)?;
+    let outcome = access_node(&mut writer.accesses, pid, page);
     if was_away && outcome.is_err() {
         page.kept = PageContent::OnLog;
     }
@@ -81,23 +81,22 @@ fn access_node(accesses: &mut Accesses, pid: PageId, page: &Page) -> Result<(), 
 // Applies a link to the node of a page, which is read where it doesn't lie in memory, and answers whether it joins the page's messages.
 // What a refused link has read isn't kept.
 pub(crate) fn pull_and_link<L: Log>(
-    sticky_log: &mut StickyLog<L>,
-    accesses: &mut Accesses,
+    writer: &mut Writer<L>,
     pid: PageId,
     page: &mut Page,
     link: &Link,
 ) -> Result<bool, Refusal>
-    requires ready { IsReady L.Log sticky_log.old }
-    requires there { L.tells → pid < length (now effect_of_entry (L.state sticky_log.old.log)) }
-    requires kept { L.tells → IsKept (chain_at (L.state sticky_log.old.log) pid) page.old }
+    requires ready { IsReady L.Log writer.old.sticky_log }
+    requires there { L.tells → pid < length (now effect_of_entry (L.state writer.old.sticky_log.log)) }
+    requires kept { L.tells → IsKept (chain_at (L.state writer.old.sticky_log.log) pid) page.old }
     requires full { is_free page.old.kept ≡ false }
     requires own { IsFreeOrNode page.old.kept }
-    ensures { PutsLink L.Log sticky_log.old pid page.old link.now sticky_log.new accesses.old
-        accesses.new page.new result }
+    ensures { PutsLink L.Log writer.old.sticky_log pid page.old link.now writer.new.sticky_log writer.old.accesses
+        writer.new.accesses page.new result }
 {
     let was_away = matches!(page.kept, PageContent::OnLog);
-    pull(sticky_log, pid, page)?;
-    match link_page(sticky_log, accesses, pid, page, link) {
+    pull(&mut writer.sticky_log, pid, page)?;
+    match link_page(writer, pid, page, link) {
         Ok(joins) => Ok(joins),
         Err(refusal) => {
             if was_away {

@@ -16,11 +16,12 @@ ghost use Rattle.sled_pagecache.specs.declared.pagecache.table.page_entry.PageCo
 
 use crate::pagecache::COUNTER_PID;
 use crate::pagecache::handles::view::PageView;
-use crate::pagecache::memory::accesses::{Accesses, size_with};
+use crate::pagecache::memory::accesses::size_with;
 use crate::pagecache::table::page_entry::{CacheInfo, Page, PageContent, keep_alone};
 use crate::pagecache::table::pagetable::PageTable;
 use crate::pagecache::write::message::write_content;
 use crate::pagecache::write::sticky_log::StickyLog;
+use crate::pagecache::write::writer::Writer;
 use sled_base::{Refusal, Serialize, Why};
 use sled_log::Log;
 
@@ -50,27 +51,26 @@ pub(crate) fn interval_start(interval: u64, n: u64) -> u64
 
 // Puts another counter on its page, and makes that and all that is pending stable. A refusal leaves the page.
 pub(crate) fn put_counter<L: Log>(
-    sticky_log: &mut StickyLog<L>,
-    accesses: &mut Accesses,
+    writer: &mut Writer<L>,
     page: &mut Page,
     n: u64,
 ) -> Result<(), Refusal>
-    requires ready { IsReady L.Log sticky_log.old }
-    requires closed { is_open (L.state sticky_log.old.log).pending ≡ false }
+    requires ready { IsReady L.Log writer.old.sticky_log }
+    requires closed { is_open (L.state writer.old.sticky_log.log).pending ≡ false }
     requires there { L.tells
-        → counter_pid < length (now effect_of_entry (L.state sticky_log.old.log)) }
-    ensures put { Puts L.Log counter_pid (page_content.Counter n) sticky_log.old sticky_log.new
-        accesses.old accesses.new page.old page.new result }
-    ensures stable { OnOk result ((L.state sticky_log.new.log).pending ≡ []) }
+        → counter_pid < length (now effect_of_entry (L.state writer.old.sticky_log.log)) }
+    ensures put { Puts L.Log counter_pid (page_content.Counter n) writer.old.sticky_log writer.new.sticky_log
+        writer.old.accesses writer.new.accesses page.old page.new result }
+    ensures stable { OnOk result ((L.state writer.new.sticky_log.log).pending ≡ []) }
 {
     let payload = n.serialized_size();
     if page.stamp == u64::MAX {
         return Err(Refusal::Unsupported(Why::StampUsedUp));
     }
-    let Ok(()) = accesses.access(COUNTER_PID, size_with(0, payload)) else {
+    let Ok(()) = writer.accesses.access(COUNTER_PID, size_with(0, payload)) else {
         return Err(Refusal::OutOfMemory);
     };
-    let info = write_durably(sticky_log, n, payload, page.stamp + 1)?;
+    let info = write_durably(&mut writer.sticky_log, n, payload, page.stamp + 1)?;
     page.kept = PageContent::Counter(n);
     keep_alone(page, info);
     Ok(())

@@ -7,28 +7,27 @@ ghost use Rattle.sled_pagecache.specs.Inside.Appends.{PutsOnNewPage};
 ghost use Rattle.sled_pagecache.specs.Inside.StickyLog.{IsReady};
 
 use crate::pagecache::MAX_PAGES;
-use crate::pagecache::memory::accesses::{Accesses, size_with};
+use crate::pagecache::memory::accesses::size_with;
 use crate::pagecache::table::boxed_node::BoxedNode;
 use crate::pagecache::table::infos::Infos;
 use crate::pagecache::table::page_entry::{Page, PageContent};
 use crate::pagecache::table::pagetable::PageTable;
 use crate::pagecache::write::message::write_node;
-use crate::pagecache::write::sticky_log::StickyLog;
+use crate::pagecache::write::writer::Writer;
 use sled_base::{PageId, Refusal, Why};
 use sled_log::Log;
 use sled_node::Node;
 
 // Puts a node on a new page behind the others, at stamp 1. A refusal leaves the pages.
 pub(crate) fn add_page<L: Log>(
-    sticky_log: &mut StickyLog<L>,
-    accesses: &mut Accesses,
+    writer: &mut Writer<L>,
     pages: &mut PageTable,
     node: Node,
 ) -> Result<(), Refusal>
-    requires ready { IsReady L.Log sticky_log.old }
+    requires ready { IsReady L.Log writer.old.sticky_log }
     requires there { L.tells
-        → length pages.old.pages ≡ length (now effect_of_entry (L.state sticky_log.old.log)) }
-    ensures { PutsOnNewPage L.Log node sticky_log.old sticky_log.new accesses.old accesses.new
+        → length pages.old.pages ≡ length (now effect_of_entry (L.state writer.old.sticky_log.log)) }
+    ensures { PutsOnNewPage L.Log node writer.old.sticky_log writer.new.sticky_log writer.old.accesses writer.new.accesses
         pages.old.pages pages.new.pages result }
 {
     // Every node is well-formed.
@@ -40,14 +39,14 @@ pub(crate) fn add_page<L: Log>(
     let Ok(()) = pages.reserve() else {
         return Err(Refusal::OutOfMemory);
     };
-    let Ok(held) = BoxedNode::new(sticky_log.alloc, node) else {
+    let Ok(held) = BoxedNode::new(writer.sticky_log.alloc, node) else {
         return Err(Refusal::OutOfMemory);
     };
     let size = held.written_size();
-    let Ok(()) = accesses.access(pid, size_with(0, size)) else {
+    let Ok(()) = writer.accesses.access(pid, size_with(0, size)) else {
         return Err(Refusal::OutOfMemory);
     };
-    let info = write_node(sticky_log, pid, &held, size, 1)?;
+    let info = write_node(&mut writer.sticky_log, pid, &held, size, 1)?;
     pages.push_reserved(Page {
         stamp: 1,
         infos: Infos::one(info),

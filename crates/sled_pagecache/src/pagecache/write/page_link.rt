@@ -12,11 +12,11 @@ ghost use Rattle.sled_pagecache.specs.Inside.PageEntry.{IsKept};
 ghost use Rattle.sled_pagecache.specs.Inside.StickyLog.{IsReady};
 
 use crate::pagecache::PAGE_CONSOLIDATION_THRESHOLD;
-use crate::pagecache::memory::accesses::{Accesses, size_with};
+use crate::pagecache::memory::accesses::size_with;
 use crate::pagecache::table::boxed_node::BoxedNode;
 use crate::pagecache::table::page_entry::{Page, PageContent, keep_alone, keep_also, total_size};
 use crate::pagecache::write::message::{write_link, write_node};
-use crate::pagecache::write::sticky_log::StickyLog;
+use crate::pagecache::write::writer::Writer;
 use sled_base::{Bug, PageId, Refusal, Serialize, Why};
 use sled_log::Log;
 use sled_node::Link;
@@ -27,31 +27,30 @@ use std::alloc::Global;
 //
 // `Corruption` comes where no node of the page is in memory, and `LinkRefused` where the node doesn't accept the link.
 pub(crate) fn link_page<L: Log>(
-    sticky_log: &mut StickyLog<L>,
-    accesses: &mut Accesses,
+    writer: &mut Writer<L>,
     pid: PageId,
     page: &mut Page,
     link: &Link,
 ) -> Result<bool, Refusal>
-    requires ready { IsReady L.Log sticky_log.old }
-    requires there { L.tells → pid < length (now effect_of_entry (L.state sticky_log.old.log)) }
-    requires kept { L.tells → IsKept (chain_at (L.state sticky_log.old.log) pid) page.old }
-    ensures { LinksPage L.Log sticky_log.old pid page.old link.now sticky_log.new accesses.old
-        accesses.new page.new result }
+    requires ready { IsReady L.Log writer.old.sticky_log }
+    requires there { L.tells → pid < length (now effect_of_entry (L.state writer.old.sticky_log.log)) }
+    requires kept { L.tells → IsKept (chain_at (L.state writer.old.sticky_log.log) pid) page.old }
+    ensures { LinksPage L.Log writer.old.sticky_log pid page.old link.now writer.new.sticky_log writer.old.accesses
+        writer.new.accesses page.new result }
 {
     let PageContent::Node(node) = &page.kept else {
         return Err(Refusal::Corruption(None));
     };
-    if !accepts(sticky_log.alloc, node, link) {
+    if !accepts(writer.sticky_log.alloc, node, link) {
         return Err(Refusal::ReportableBug(Bug::LinkRefused));
     }
     if page.stamp == u64::MAX {
         return Err(Refusal::Unsupported(Why::StampUsedUp));
     }
     if page.infos.len() < PAGE_CONSOLIDATION_THRESHOLD {
-        return join_link(sticky_log, accesses, pid, page, link);
+        return join_link(writer, pid, page, link);
     }
-    put_linked(sticky_log, accesses, pid, page, link)
+    put_linked(writer, pid, page, link)
 }
 
 // Whether the node accepts the link, which can be written then.
@@ -72,8 +71,7 @@ fn accepts(alloc: Global, node: &BoxedNode, link: &Link) -> bool
 // Applies a link that the page's node accepts, and appends it to the log as one more message of the page.
 #[inline(always)]
 fn join_link<L: Log>(
-    sticky_log: &mut StickyLog<L>,
-    accesses: &mut Accesses,
+    writer: &mut Writer<L>,
     pid: PageId,
     page: &mut Page,
     link: &Link,
@@ -82,28 +80,28 @@ fn join_link<L: Log>(
     requires can_write { CanWriteLink link.now }
     requires below { page.old.stamp < 2 ^ 64 - 1 }
     requires few { length page.old.infos.items < most_messages }
-    requires ready { IsReady L.Log sticky_log.old }
-    requires there { L.tells → pid < length (now effect_of_entry (L.state sticky_log.old.log)) }
-    requires kept { L.tells → IsKept (chain_at (L.state sticky_log.old.log) pid) page.old }
-    ensures { LinksPage L.Log sticky_log.old pid page.old link.now sticky_log.new accesses.old
-        accesses.new page.new result }
+    requires ready { IsReady L.Log writer.old.sticky_log }
+    requires there { L.tells → pid < length (now effect_of_entry (L.state writer.old.sticky_log.log)) }
+    requires kept { L.tells → IsKept (chain_at (L.state writer.old.sticky_log.log) pid) page.old }
+    ensures { LinksPage L.Log writer.old.sticky_log pid page.old link.now writer.new.sticky_log writer.old.accesses
+        writer.new.accesses page.new result }
 {
     let PageContent::Node(node) = &mut page.kept else {
         unreachable!();
     };
-    let Ok(()) = page.infos.reserve(sticky_log.alloc) else {
+    let Ok(()) = page.infos.reserve(writer.sticky_log.alloc) else {
         return Err(Refusal::OutOfMemory);
     };
-    let Ok(()) = node.apply(sticky_log.alloc, link) else {
+    let Ok(()) = node.apply(writer.sticky_log.alloc, link) else {
         return Err(Refusal::OutOfMemory);
     };
     let size = link.serialized_size();
     let taken = size_with(total_size(page.infos.as_slice()), size);
-    let Ok(()) = accesses.access(pid, taken) else {
+    let Ok(()) = writer.accesses.access(pid, taken) else {
         page.kept = PageContent::OnLog;
         return Err(Refusal::OutOfMemory);
     };
-    match write_link(sticky_log, pid, link, size, page.stamp + 1) {
+    match write_link(&mut writer.sticky_log, pid, link, size, page.stamp + 1) {
         Ok(info) => {
             keep_also(page, info);
             Ok(true)
@@ -117,8 +115,7 @@ fn join_link<L: Log>(
 
 // Applies a link that the page's node accepts, and puts the node that it makes on the page, in place of its messages.
 fn put_linked<L: Log>(
-    sticky_log: &mut StickyLog<L>,
-    accesses: &mut Accesses,
+    writer: &mut Writer<L>,
     pid: PageId,
     page: &mut Page,
     link: &Link,
@@ -126,24 +123,24 @@ fn put_linked<L: Log>(
     requires accepted { AcceptsAt page.old.kept link.now }
     requires below { page.old.stamp < 2 ^ 64 - 1 }
     requires many { most_messages ≤ length page.old.infos.items }
-    requires ready { IsReady L.Log sticky_log.old }
-    requires there { L.tells → pid < length (now effect_of_entry (L.state sticky_log.old.log)) }
-    requires kept { L.tells → IsKept (chain_at (L.state sticky_log.old.log) pid) page.old }
-    ensures { LinksPage L.Log sticky_log.old pid page.old link.now sticky_log.new accesses.old
-        accesses.new page.new result }
+    requires ready { IsReady L.Log writer.old.sticky_log }
+    requires there { L.tells → pid < length (now effect_of_entry (L.state writer.old.sticky_log.log)) }
+    requires kept { L.tells → IsKept (chain_at (L.state writer.old.sticky_log.log) pid) page.old }
+    ensures { LinksPage L.Log writer.old.sticky_log pid page.old link.now writer.new.sticky_log writer.old.accesses
+        writer.new.accesses page.new result }
 {
     let PageContent::Node(node) = &mut page.kept else {
         unreachable!();
     };
-    let Ok(()) = node.apply(sticky_log.alloc, link) else {
+    let Ok(()) = node.apply(writer.sticky_log.alloc, link) else {
         return Err(Refusal::OutOfMemory);
     };
     let size = node.written_size();
-    let Ok(()) = accesses.access(pid, size_with(0, size)) else {
+    let Ok(()) = writer.accesses.access(pid, size_with(0, size)) else {
         page.kept = PageContent::OnLog;
         return Err(Refusal::OutOfMemory);
     };
-    match write_node(sticky_log, pid, node, size, page.stamp + 1) {
+    match write_node(&mut writer.sticky_log, pid, node, size, page.stamp + 1) {
         Ok(info) => {
             keep_alone(page, info);
             Ok(false)

@@ -14,12 +14,12 @@ ghost use Rattle.sled_pagecache.specs.Table.{is_free};
 ghost use Rattle.sled_pagecache.specs.Inside.StickyLog.{IsReady};
 
 use crate::pagecache::handles::config::Config;
-use crate::pagecache::memory::accesses::{Accesses, size_with};
+use crate::pagecache::memory::accesses::size_with;
 use crate::pagecache::memory::pull::pull;
 use crate::pagecache::table::page_entry::{CacheInfo, Page, PageContent, keep_moved};
 use crate::pagecache::write::message::write_content;
 use crate::pagecache::write::page_swap::payload_size;
-use crate::pagecache::write::sticky_log::StickyLog;
+use crate::pagecache::write::writer::Writer;
 use sled_base::{BlobPointer, DiskPtr, LogOffset, PageId, Refusal};
 use sled_log::Log;
 
@@ -47,23 +47,22 @@ fn segment_of(config: Config, place: LogOffset) -> u64
 // lies there. One that is kept as one blob isn't read: its message is written again, and it stays in memory or out of it. A refusal
 // leaves the page, and what it has read isn't kept.
 pub(crate) fn move_page<L: Log>(
-    sticky_log: &mut StickyLog<L>,
-    accesses: &mut Accesses,
+    writer: &mut Writer<L>,
     pid: PageId,
     page: &mut Page,
 ) -> Result<(), Refusal>
-    requires ready { IsReady L.Log sticky_log.old }
-    requires there { L.tells → pid < length (now effect_of_entry (L.state sticky_log.old.log)) }
-    requires kept { L.tells → IsKept (chain_at (L.state sticky_log.old.log) pid) page.old }
+    requires ready { IsReady L.Log writer.old.sticky_log }
+    requires there { L.tells → pid < length (now effect_of_entry (L.state writer.old.sticky_log.log)) }
+    requires kept { L.tells → IsKept (chain_at (L.state writer.old.sticky_log.log) pid) page.old }
     requires chain { L.tells
-        → is_chain effect_of_entry (chain_at (L.state sticky_log.old.log) pid) ≡ true }
-    requires sized { L.tells → IsSized (chain_at (L.state sticky_log.old.log) pid) }
-    ensures { MovesOrNot L.Log sticky_log.old pid page.old sticky_log.new accesses.old accesses.new
+        → is_chain effect_of_entry (chain_at (L.state writer.old.sticky_log.log) pid) ≡ true }
+    requires sized { L.tells → IsSized (chain_at (L.state writer.old.sticky_log.log) pid) }
+    ensures { MovesOrNot L.Log writer.old.sticky_log pid page.old writer.new.sticky_log writer.old.accesses writer.new.accesses
         page.new result }
 {
     match blob_of(page) {
-        Some(blob) => move_blob(sticky_log, accesses, pid, page, blob),
-        None => pull_and_rewrite(sticky_log, accesses, pid, page),
+        Some(blob) => move_blob(writer, pid, page, blob),
+        None => pull_and_rewrite(writer, pid, page),
     }
 }
 
@@ -85,27 +84,26 @@ fn blob_of(page: &Page) -> Option<BlobPointer>
 
 // Writes the message of a page again that is kept as one blob.
 fn move_blob<L: Log>(
-    sticky_log: &mut StickyLog<L>,
-    accesses: &mut Accesses,
+    writer: &mut Writer<L>,
     pid: PageId,
     page: &mut Page,
     blob: BlobPointer,
 ) -> Result<(), Refusal>
-    requires ready { IsReady L.Log sticky_log.old }
-    requires there { L.tells → pid < length (now effect_of_entry (L.state sticky_log.old.log)) }
-    requires kept { L.tells → IsKept (chain_at (L.state sticky_log.old.log) pid) page.old }
+    requires ready { IsReady L.Log writer.old.sticky_log }
+    requires there { L.tells → pid < length (now effect_of_entry (L.state writer.old.sticky_log.log)) }
+    requires kept { L.tells → IsKept (chain_at (L.state writer.old.sticky_log.log) pid) page.old }
     requires chain { L.tells
-        → is_chain effect_of_entry (chain_at (L.state sticky_log.old.log) pid) ≡ true }
-    requires sized { L.tells → IsSized (chain_at (L.state sticky_log.old.log) pid) }
+        → is_chain effect_of_entry (chain_at (L.state writer.old.sticky_log.log) pid) ≡ true }
+    requires sized { L.tells → IsSized (chain_at (L.state writer.old.sticky_log.log) pid) }
     requires blob { IsBlobOf page.old blob }
-    ensures { MovesOrNot L.Log sticky_log.old pid page.old sticky_log.new accesses.old accesses.new
+    ensures { MovesOrNot L.Log writer.old.sticky_log pid page.old writer.new.sticky_log writer.old.accesses writer.new.accesses
         page.new result }
 {
     let log_size = page.first_info().log_size;
-    let Ok(()) = accesses.access(pid, log_size) else {
+    let Ok(()) = writer.accesses.access(pid, log_size) else {
         return Err(Refusal::OutOfMemory);
     };
-    let (lsn, pointer, _) = sticky_log.rewrite_blob_pointer(pid, blob)?;
+    let (lsn, pointer, _) = writer.sticky_log.rewrite_blob_pointer(pid, blob)?;
     let info = CacheInfo {
         ts: page.stamp,
         lsn,
@@ -118,22 +116,21 @@ fn move_blob<L: Log>(
 
 // Writes again what a page holds, which is read before where it doesn't lie in memory.
 fn pull_and_rewrite<L: Log>(
-    sticky_log: &mut StickyLog<L>,
-    accesses: &mut Accesses,
+    writer: &mut Writer<L>,
     pid: PageId,
     page: &mut Page,
 ) -> Result<(), Refusal>
-    requires ready { IsReady L.Log sticky_log.old }
-    requires there { L.tells → pid < length (now effect_of_entry (L.state sticky_log.old.log)) }
-    requires kept { L.tells → IsKept (chain_at (L.state sticky_log.old.log) pid) page.old }
+    requires ready { IsReady L.Log writer.old.sticky_log }
+    requires there { L.tells → pid < length (now effect_of_entry (L.state writer.old.sticky_log.log)) }
+    requires kept { L.tells → IsKept (chain_at (L.state writer.old.sticky_log.log) pid) page.old }
     requires no_blob { is_free page.old.kept ≡ false
         → is_one_blob (pointers_in page.old.infos.items) ≡ false }
-    ensures { MovesOrNot L.Log sticky_log.old pid page.old sticky_log.new accesses.old accesses.new
+    ensures { MovesOrNot L.Log writer.old.sticky_log pid page.old writer.new.sticky_log writer.old.accesses writer.new.accesses
         page.new result }
 {
     let was_away = matches!(page.kept, PageContent::OnLog);
-    pull(sticky_log, pid, page)?;
-    match rewrite(sticky_log, accesses, pid, page) {
+    pull(&mut writer.sticky_log, pid, page)?;
+    match rewrite(writer, pid, page) {
         Ok(()) => Ok(()),
         Err(refusal) => {
             if was_away {
@@ -145,25 +142,20 @@ fn pull_and_rewrite<L: Log>(
 }
 
 // Writes again what lies in memory of a page. A refusal leaves the page.
-fn rewrite<L: Log>(
-    sticky_log: &mut StickyLog<L>,
-    accesses: &mut Accesses,
-    pid: PageId,
-    page: &mut Page,
-) -> Result<(), Refusal>
+fn rewrite<L: Log>(writer: &mut Writer<L>, pid: PageId, page: &mut Page) -> Result<(), Refusal>
     requires held { is_resident page.old.kept ≡ true }
-    requires ready { IsReady L.Log sticky_log.old }
-    requires there { L.tells → pid < length (now effect_of_entry (L.state sticky_log.old.log)) }
-    ensures { PutsAgain L.Log pid sticky_log.old sticky_log.new accesses.old accesses.new page.old
+    requires ready { IsReady L.Log writer.old.sticky_log }
+    requires there { L.tells → pid < length (now effect_of_entry (L.state writer.old.sticky_log.log)) }
+    ensures { PutsAgain L.Log pid writer.old.sticky_log writer.new.sticky_log writer.old.accesses writer.new.accesses page.old
         page.new result }
 {
     know_limits(&page.kept);
     let size = payload_size(&page.kept);
-    let Ok(()) = accesses.access(pid, size_with(0, size)) else {
+    let Ok(()) = writer.accesses.access(pid, size_with(0, size)) else {
         return Err(Refusal::OutOfMemory);
     };
     let stamp = page.stamp;
-    let info = write_content(sticky_log, pid, &page.kept, size, stamp)?;
+    let info = write_content(&mut writer.sticky_log, pid, &page.kept, size, stamp)?;
     keep_moved(page, info);
     Ok(())
 }

@@ -14,38 +14,37 @@ ghost use Rattle.sled_pagecache.specs.Inside.PageWrites.{CanPut, content_of};
 ghost use Rattle.sled_pagecache.specs.Inside.StickyLog.{IsReady};
 ghost use Rattle.sled_pagecache.specs.declared.pagecache.table.page_entry.PageContent.TheVariants as page_content;
 
-use crate::pagecache::memory::accesses::{Accesses, size_with};
+use crate::pagecache::memory::accesses::size_with;
 use crate::pagecache::table::boxed_node::BoxedNode;
 use crate::pagecache::table::free_ids::FreeIds;
 use crate::pagecache::table::page_entry::{Page, PageContent, keep_alone};
 use crate::pagecache::write::message::write_content;
-use crate::pagecache::write::sticky_log::StickyLog;
+use crate::pagecache::write::writer::Writer;
 use sled_base::{PageId, Refusal, Serialize, Why};
 use sled_log::Log;
 use sled_node::Node;
 
 // Puts a content on a page in place of what it held. A refusal leaves the page.
 pub(crate) fn put_page<L: Log>(
-    sticky_log: &mut StickyLog<L>,
-    accesses: &mut Accesses,
+    writer: &mut Writer<L>,
     pid: PageId,
     page: &mut Page,
     kept: PageContent,
 ) -> Result<(), Refusal>
     requires can_put { CanPut kept }
-    requires ready { IsReady L.Log sticky_log.old }
-    requires there { L.tells → pid < length (now effect_of_entry (L.state sticky_log.old.log)) }
-    ensures { Puts L.Log pid kept sticky_log.old sticky_log.new accesses.old accesses.new
+    requires ready { IsReady L.Log writer.old.sticky_log }
+    requires there { L.tells → pid < length (now effect_of_entry (L.state writer.old.sticky_log.log)) }
+    ensures { Puts L.Log pid kept writer.old.sticky_log writer.new.sticky_log writer.old.accesses writer.new.accesses
         page.old page.new result }
 {
     let payload = payload_size(&kept);
     if page.stamp == u64::MAX {
         return Err(Refusal::Unsupported(Why::StampUsedUp));
     }
-    let Ok(()) = accesses.access(pid, size_with(0, payload)) else {
+    let Ok(()) = writer.accesses.access(pid, size_with(0, payload)) else {
         return Err(Refusal::OutOfMemory);
     };
-    let info = write_content(sticky_log, pid, &kept, payload, page.stamp + 1)?;
+    let info = write_content(&mut writer.sticky_log, pid, &kept, payload, page.stamp + 1)?;
     page.kept = kept;
     keep_alone(page, info);
     Ok(())
@@ -53,42 +52,40 @@ pub(crate) fn put_page<L: Log>(
 
 // Puts a node on a page in place of what it held. A refusal leaves the page.
 pub(crate) fn put_node<L: Log>(
-    sticky_log: &mut StickyLog<L>,
-    accesses: &mut Accesses,
+    writer: &mut Writer<L>,
     pid: PageId,
     page: &mut Page,
     node: Node,
 ) -> Result<(), Refusal>
-    requires ready { IsReady L.Log sticky_log.old }
-    requires there { L.tells → pid < length (now effect_of_entry (L.state sticky_log.old.log)) }
-    ensures { Puts L.Log pid (page_content.Node node) sticky_log.old sticky_log.new accesses.old
-        accesses.new page.old page.new result }
+    requires ready { IsReady L.Log writer.old.sticky_log }
+    requires there { L.tells → pid < length (now effect_of_entry (L.state writer.old.sticky_log.log)) }
+    ensures { Puts L.Log pid (page_content.Node node) writer.old.sticky_log writer.new.sticky_log writer.old.accesses
+        writer.new.accesses page.old page.new result }
 {
     // Every node is well-formed.
     let _ = node.data();
     if page.stamp == u64::MAX {
         return Err(Refusal::Unsupported(Why::StampUsedUp));
     }
-    let Ok(held) = BoxedNode::new(sticky_log.alloc, node) else {
+    let Ok(held) = BoxedNode::new(writer.sticky_log.alloc, node) else {
         return Err(Refusal::OutOfMemory);
     };
-    put_page(sticky_log, accesses, pid, page, PageContent::Node(held))
+    put_page(writer, pid, page, PageContent::Node(held))
 }
 
 // Frees a page, and puts its id among those of the free ones. A refusal leaves both.
 pub(crate) fn free_page<L: Log>(
-    sticky_log: &mut StickyLog<L>,
-    accesses: &mut Accesses,
+    writer: &mut Writer<L>,
     free: &mut FreeIds,
     pid: PageId,
     page: &mut Page,
 ) -> Result<(), Refusal>
     requires lacks { AllByRecursion (λ id. id ≢ pid) free.old.ids.keys }
-    requires ready { IsReady L.Log sticky_log.old }
-    requires there { L.tells → pid < length (now effect_of_entry (L.state sticky_log.old.log)) }
+    requires ready { IsReady L.Log writer.old.sticky_log }
+    requires there { L.tells → pid < length (now effect_of_entry (L.state writer.old.sticky_log.log)) }
     ensures freed { OnOk result (free.new.ids.keys ≡ insert_key nat_cmp free.old.ids.keys pid) }
     ensures unfreed { OnErr result (free.new.ids.keys ≡ free.old.ids.keys) }
-    ensures put { Puts L.Log pid page_content.Free sticky_log.old sticky_log.new accesses.old accesses.new
+    ensures put { Puts L.Log pid page_content.Free writer.old.sticky_log writer.new.sticky_log writer.old.accesses writer.new.accesses
         page.old page.new result }
 {
     if page.stamp == u64::MAX {
@@ -97,7 +94,7 @@ pub(crate) fn free_page<L: Log>(
     let Ok(()) = free.put(pid) else {
         return Err(Refusal::OutOfMemory);
     };
-    let freed = put_page(sticky_log, accesses, pid, page, PageContent::Free);
+    let freed = put_page(writer, pid, page, PageContent::Free);
     if freed.is_err() {
         free.take_back(pid);
     }
@@ -106,22 +103,21 @@ pub(crate) fn free_page<L: Log>(
 
 // Puts a node on the free page with the greatest id, which is free no more then. A refusal leaves both.
 pub(crate) fn reuse_page<L: Log>(
-    sticky_log: &mut StickyLog<L>,
-    accesses: &mut Accesses,
+    writer: &mut Writer<L>,
     free: &mut FreeIds,
     pid: PageId,
     page: &mut Page,
     node: Node,
 ) -> Result<(), Refusal>
-    requires ready { IsReady L.Log sticky_log.old }
-    requires there { L.tells → pid < length (now effect_of_entry (L.state sticky_log.old.log)) }
+    requires ready { IsReady L.Log writer.old.sticky_log }
+    requires there { L.tells → pid < length (now effect_of_entry (L.state writer.old.sticky_log.log)) }
     ensures taken { OnOk result
         (free.new.ids.keys ≡ take (length free.old.ids.keys - 1) free.old.ids.keys) }
     ensures untaken { OnErr result (free.new.ids.keys ≡ free.old.ids.keys) }
-    ensures put { Puts L.Log pid (page_content.Node node) sticky_log.old sticky_log.new accesses.old
-        accesses.new page.old page.new result }
+    ensures put { Puts L.Log pid (page_content.Node node) writer.old.sticky_log writer.new.sticky_log writer.old.accesses
+        writer.new.accesses page.old page.new result }
 {
-    let put = put_node(sticky_log, accesses, pid, page, node);
+    let put = put_node(writer, pid, page, node);
     if put.is_ok() {
         free.take_greatest();
     }

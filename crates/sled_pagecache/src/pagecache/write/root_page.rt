@@ -19,11 +19,11 @@ ghost use Rattle.sled_pagecache.specs.declared.pagecache.table.page_entry.PageCo
 
 use crate::pagecache::META_PID;
 use crate::pagecache::handles::view::{MetaView, PageView};
-use crate::pagecache::memory::accesses::{Accesses, size_with};
+use crate::pagecache::memory::accesses::size_with;
 use crate::pagecache::table::page_entry::{CacheInfo, Page, PageContent, keep_alone};
 use crate::pagecache::table::pagetable::PageTable;
 use crate::pagecache::write::message::write_payload;
-use crate::pagecache::write::sticky_log::StickyLog;
+use crate::pagecache::write::writer::Writer;
 use sled_base::{Device, MessageKind, PageId, Refusal, Serialize, Why};
 use sled_log::Log;
 use sled_node::Meta;
@@ -86,20 +86,19 @@ pub(crate) fn judge_name(roots: &Meta, name: &[u8]) -> Result<(), Refusal>
 // Gives a name another root page in the map that the page holds, or takes it out where there is none, and writes the map. A
 // refusal leaves the page.
 pub(crate) fn swap_root<L: Log>(
-    sticky_log: &mut StickyLog<L>,
-    accesses: &mut Accesses,
+    writer: &mut Writer<L>,
     page: &mut Page,
     name: &[u8],
     root: Option<PageId>,
 ) -> Result<(), Refusal>
     requires roots { IsRoots page.old.kept }
     requires can { CanChange name.now root (roots_in page.old.kept) }
-    requires ready { IsReady L.Log sticky_log.old }
+    requires ready { IsReady L.Log writer.old.sticky_log }
     requires there { L.tells
-        → meta_pid < length (now effect_of_entry (L.state sticky_log.old.log)) }
+        → meta_pid < length (now effect_of_entry (L.state writer.old.sticky_log.log)) }
     ensures { Puts L.Log meta_pid
         (page_content.Roots (changed_roots name.now root (roots_in page.old.kept)))
-        sticky_log.old sticky_log.new accesses.old accesses.new page.old page.new result }
+        writer.old.sticky_log writer.new.sticky_log writer.old.accesses writer.new.accesses page.old page.new result }
 {
     let PageContent::Roots(held) = &mut page.kept else {
         unreachable!()
@@ -111,47 +110,45 @@ pub(crate) fn swap_root<L: Log>(
         return Err(Refusal::Unsupported(Why::StampUsedUp));
     }
     let stamp = page.stamp + 1;
-    let info = put_changed(sticky_log, accesses, roots, name, root, stamp)?;
+    let info = put_changed(writer, roots, name, root, stamp)?;
     keep_alone(page, info);
     Ok(())
 }
 
 // Changes the map as asked, and writes it. A refusal leaves the map.
 fn put_changed<L: Log>(
-    sticky_log: &mut StickyLog<L>,
-    accesses: &mut Accesses,
+    writer: &mut Writer<L>,
     roots: &mut Meta,
     name: &[u8],
     root: Option<PageId>,
     stamp: u64,
 ) -> Result<CacheInfo, Refusal>
     requires can { CanChange name.now root roots.old }
-    requires ready { IsReady L.Log sticky_log.old }
+    requires ready { IsReady L.Log writer.old.sticky_log }
     requires there { L.tells
-        → meta_pid < length (now effect_of_entry (L.state sticky_log.old.log)) }
-    ensures put { WritesMap L.Log sticky_log.old sticky_log.new accesses.old accesses.new
+        → meta_pid < length (now effect_of_entry (L.state writer.old.sticky_log.log)) }
+    ensures put { WritesMap L.Log writer.old.sticky_log writer.new.sticky_log writer.old.accesses writer.new.accesses
         (written_roots (changed_roots name.now root roots.old)) stamp result }
     ensures changed { OnOk result (roots.new ≡ changed_roots name.now root roots.old) }
     ensures left { OnErr result (roots.new ≡ roots.old) }
 {
     match root {
-        None => put_without(sticky_log, accesses, roots, name, stamp),
-        Some(root) => put_with(sticky_log, accesses, roots, name, root, stamp),
+        None => put_without(writer, roots, name, stamp),
+        Some(root) => put_with(writer, roots, name, root, stamp),
     }
 }
 
 // Writes the map without the name, and takes the name out.
 fn put_without<L: Log>(
-    sticky_log: &mut StickyLog<L>,
-    accesses: &mut Accesses,
+    writer: &mut Writer<L>,
     roots: &mut Meta,
     name: &[u8],
     stamp: u64,
 ) -> Result<CacheInfo, Refusal>
-    requires ready { IsReady L.Log sticky_log.old }
+    requires ready { IsReady L.Log writer.old.sticky_log }
     requires there { L.tells
-        → meta_pid < length (now effect_of_entry (L.state sticky_log.old.log)) }
-    ensures put { WritesMap L.Log sticky_log.old sticky_log.new accesses.old accesses.new
+        → meta_pid < length (now effect_of_entry (L.state writer.old.sticky_log.log)) }
+    ensures put { WritesMap L.Log writer.old.sticky_log writer.new.sticky_log writer.old.accesses writer.new.accesses
         (written_roots (changed_roots name.now None roots.old)) stamp result }
     ensures changed { OnOk result (roots.new ≡ changed_roots name.now None roots.old) }
     ensures left { OnErr result (roots.new ≡ roots.old) }
@@ -159,7 +156,7 @@ fn put_without<L: Log>(
     let Ok(payload) = roots.serialize_without(name) else {
         return Err(Refusal::OutOfMemory);
     };
-    let written = put_payload(sticky_log, accesses, &payload, stamp);
+    let written = put_payload(writer, &payload, stamp);
     if written.is_ok() {
         roots.del_root(name);
     }
@@ -169,18 +166,17 @@ fn put_without<L: Log>(
 // Sets the name to that root, and writes the map. Where it can't be written, the name is given back what it had, which takes no
 // memory.
 fn put_with<L: Log>(
-    sticky_log: &mut StickyLog<L>,
-    accesses: &mut Accesses,
+    writer: &mut Writer<L>,
     roots: &mut Meta,
     name: &[u8],
     root: PageId,
     stamp: u64,
 ) -> Result<CacheInfo, Refusal>
     requires can { CanChange name.now (Some root) roots.old }
-    requires ready { IsReady L.Log sticky_log.old }
+    requires ready { IsReady L.Log writer.old.sticky_log }
     requires there { L.tells
-        → meta_pid < length (now effect_of_entry (L.state sticky_log.old.log)) }
-    ensures put { WritesMap L.Log sticky_log.old sticky_log.new accesses.old accesses.new
+        → meta_pid < length (now effect_of_entry (L.state writer.old.sticky_log.log)) }
+    ensures put { WritesMap L.Log writer.old.sticky_log writer.new.sticky_log writer.old.accesses writer.new.accesses
         (written_roots (changed_roots name.now (Some root) roots.old)) stamp result }
     ensures changed { OnOk result (roots.new ≡ changed_roots name.now (Some root) roots.old) }
     ensures left { OnErr result (roots.new ≡ roots.old) }
@@ -188,19 +184,19 @@ fn put_with<L: Log>(
     // Every map keeps the limits.
     let _ = roots.len();
     if let Some(former) = roots.replace_root(name, root) {
-        let written = put_map(sticky_log, accesses, roots, stamp);
+        let written = put_map(writer, roots, stamp);
         if written.is_err() {
             roots.replace_root(name, former);
         }
         return written;
     }
-    let Ok(copy) = Vec::from_slice(sticky_log.alloc, name) else {
+    let Ok(copy) = Vec::from_slice(writer.sticky_log.alloc, name) else {
         return Err(Refusal::OutOfMemory);
     };
     let Ok(_) = roots.put_root(copy, root) else {
         return Err(Refusal::OutOfMemory);
     };
-    let written = put_map(sticky_log, accesses, roots, stamp);
+    let written = put_map(writer, roots, stamp);
     if written.is_err() {
         roots.del_root(name);
     }
@@ -208,42 +204,39 @@ fn put_with<L: Log>(
 }
 
 // Writes the map as it is.
-fn put_map<L: Log>(
-    sticky_log: &mut StickyLog<L>,
-    accesses: &mut Accesses,
-    roots: &Meta,
-    stamp: u64,
-) -> Result<CacheInfo, Refusal>
-    requires ready { IsReady L.Log sticky_log.old }
+fn put_map<L: Log>(writer: &mut Writer<L>, roots: &Meta, stamp: u64) -> Result<CacheInfo, Refusal>
+    requires ready { IsReady L.Log writer.old.sticky_log }
     requires there { L.tells
-        → meta_pid < length (now effect_of_entry (L.state sticky_log.old.log)) }
-    ensures { WritesMap L.Log sticky_log.old sticky_log.new accesses.old accesses.new
+        → meta_pid < length (now effect_of_entry (L.state writer.old.sticky_log.log)) }
+    ensures { WritesMap L.Log writer.old.sticky_log writer.new.sticky_log writer.old.accesses writer.new.accesses
         (written_roots roots.now) stamp result }
 {
-    let Ok(payload) = roots.serialize(sticky_log.alloc) else {
+    let Ok(payload) = roots.serialize(writer.sticky_log.alloc) else {
         return Err(Refusal::OutOfMemory);
     };
-    put_payload(sticky_log, accesses, &payload, stamp)
+    put_payload(writer, &payload, stamp)
 }
 
 // Accesses the page of the named roots and writes the map that has this payload.
 fn put_payload<L: Log>(
-    sticky_log: &mut StickyLog<L>,
-    accesses: &mut Accesses,
+    writer: &mut Writer<L>,
     payload: &[u8],
     stamp: u64,
 ) -> Result<CacheInfo, Refusal>
-    requires ready { IsReady L.Log sticky_log.old }
+    requires ready { IsReady L.Log writer.old.sticky_log }
     requires there { L.tells
-        → meta_pid < length (now effect_of_entry (L.state sticky_log.old.log)) }
-    ensures { WritesMap L.Log sticky_log.old sticky_log.new accesses.old accesses.new payload.now
+        → meta_pid < length (now effect_of_entry (L.state writer.old.sticky_log.log)) }
+    ensures { WritesMap L.Log writer.old.sticky_log writer.new.sticky_log writer.old.accesses writer.new.accesses payload.now
         stamp result }
 {
-    let Ok(()) = accesses.access(META_PID, size_with(0, payload.len() as u64)) else {
+    let Ok(()) = writer
+        .accesses
+        .access(META_PID, size_with(0, payload.len() as u64))
+    else {
         return Err(Refusal::OutOfMemory);
     };
     write_payload(
-        sticky_log,
+        &mut writer.sticky_log,
         MessageKind::InlineMeta,
         META_PID,
         payload,

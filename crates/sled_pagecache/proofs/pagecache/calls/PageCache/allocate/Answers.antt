@@ -19,11 +19,11 @@ pub returns-then-stuck-clause-leaves : goal.returns-then-stuck-clause-leaves
 returns-then-stuck-clause-leaves g c =
     let inside = c.self.inside in
     rw (← c.self.view_is)
-    (length inside.pages.pages, past-view inside.next inside.next inside.config inside.recovered inside.accesses.lru inside.sticky_log inside.sticky_log inside.pages.pages (length inside.pages.pages) (omega arith), leaves-same _ g.L.Log.tells (length inside.pages.pages) _)
+    (length inside.pages.pages, past-view inside.next inside.next inside.config inside.recovered inside.writer.accesses.lru inside.writer.sticky_log inside.writer.sticky_log inside.pages.pages (length inside.pages.pages) (omega arith), leaves-same _ g.L.Log.tells (length inside.pages.pages) _)
 
 pub add_page-added-requires-clause-there : goal.add_page-added-requires-clause-there
 add_page-added-requires-clause-there g c =
-    beside-long g.L.Log.tells g.L.Log.state c.self.inside.sticky_log.log c.self.inside.pages.pages (c.self.invariant.whole.consistent.beside c.if-stuck.false)
+    beside-long g.L.Log.tells g.L.Log.state c.self.inside.writer.sticky_log.log c.self.inside.pages.pages (c.self.invariant.whole.consistent.beside c.if-stuck.false)
 
 pub get_mut-page-requires : goal.get_mut-page-requires
 get_mut-page-requires g c =
@@ -36,7 +36,7 @@ reuse_page-reused-requires-clause-there g c = λ told.
     let pid = c.in-Some.pid in
     let last = last-read _ _ _ pid c.self.invariant.whole.consistent.free c.greatest.ensures c.in-Some.is in
     let within = slice_get_within c.self.inside.pages.pages pid last.page (last-at _ _ pid last) in
-    let long = beside-long g.L.Log.tells g.L.Log.state c.self.inside.sticky_log.log c.self.inside.pages.pages (c.self.invariant.whole.consistent.beside c.if-stuck.false) told in
+    let long = beside-long g.L.Log.tells g.L.Log.state c.self.inside.writer.sticky_log.log c.self.inside.pages.pages (c.self.invariant.whole.consistent.beside c.if-stuck.false) told in
     omega (arith, within, long)
 
 pub invariant_of-self : goal.invariant_of-self

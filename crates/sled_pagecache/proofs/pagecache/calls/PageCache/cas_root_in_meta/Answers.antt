@@ -20,7 +20,7 @@ returns-in_err-root g c =
     let inside = c.self.inside in
     let found = c.in_ok-view.ensures in
     let judged = rw c.meta.ensures at c.in_err-root.ensures in
-    let step : Acts g.L.Log c.args.self.now (CasRoot c.args.name.now c.args.old c.args.new) (RootSwapped (Err (error_of c.in_err-root.field-0.0))) c.args.self.now = rw (← c.self.view_is) (unfit-root g.L.Log inside.next inside.config inside.recovered inside.accesses.lru inside.sticky_log inside.pages.pages inside.free.ids.keys c.self.invariant.whole.consistent found.0 c.in_ok-view.view.meta.now c.in_ok-view.view.token.stamp found.2 (g.met.L.Log.only_now inside.sticky_log.log) c.args.name.now c.args.old c.args.new c.in_err-root.field-0.0 judged.0 judged.1) in
+    let step : Acts g.L.Log c.args.self.now (CasRoot c.args.name.now c.args.old c.args.new) (RootSwapped (Err (error_of c.in_err-root.field-0.0))) c.args.self.now = rw (← c.self.view_is) (unfit-root g.L.Log inside.next inside.config inside.recovered inside.writer.accesses.lru inside.writer.sticky_log inside.pages.pages inside.free.ids.keys c.self.invariant.whole.consistent found.0 c.in_ok-view.view.meta.now c.in_ok-view.view.token.stamp found.2 (g.met.L.Log.only_now inside.writer.sticky_log.log) c.args.name.now c.args.old c.args.new c.in_err-root.field-0.0 judged.0 judged.1) in
     rw (refused-is c.from_residual-in_err-root.result _ c.from_residual-in_err-root.ensures.1) (search (rules, leaves-same, no_name, rw c.self.view_is at c.self.invariant.bounded))
 
 pub returns-in-Err : goal.returns-in-Err
@@ -28,7 +28,7 @@ returns-in-Err g c =
     let inside = c.self.inside in
     let found = c.in_ok-view.ensures in
     let judged = rw (c.in-Err.is, c.meta.ensures) at c.in_ok-root.ensures in
-    let step = another-root g.L.Log inside.next inside.config inside.recovered inside.accesses.lru inside.sticky_log inside.pages.pages inside.free.ids.keys c.self.invariant.whole.consistent found.0 c.in_ok-view.view.meta.now c.in_ok-view.view.token.stamp found.2 (g.met.L.Log.only_now inside.sticky_log.log) c.args.name.now c.args.old c.args.new c.in-Err.root judged.0 judged.1 in
+    let step = another-root g.L.Log inside.next inside.config inside.recovered inside.writer.accesses.lru inside.writer.sticky_log inside.pages.pages inside.free.ids.keys c.self.invariant.whole.consistent found.0 c.in_ok-view.view.meta.now c.in_ok-view.view.token.stamp found.2 (g.met.L.Log.only_now inside.writer.sticky_log.log) c.args.name.now c.args.old c.args.new c.in-Err.root judged.0 judged.1 in
     rw (← c.self.view_is) (search (rules, keeps-same))
 
 pub invariant_of-self : goal.invariant_of-self

@@ -8,7 +8,7 @@ invariant_of-self g c = kept-settled g.L.Log _ _ _ _ _ _ _ _ _ c.self.invariant 
 
 pub returns-then-self : goal.returns-then-self
 returns-then-self g c = record {
-  closes = rw (← c.self.view_is) (closes-stuck g.L.Log _ _ _ _ _ c.args.closing c.self.inside.sticky_log (ap (λ cache. cache.batch) c.self.view_is ∙ c.requires) c.if-self.true);
+  closes = rw (← c.self.view_is) (closes-stuck g.L.Log _ _ _ _ _ c.args.closing c.self.inside.writer.sticky_log (ap (λ cache. cache.batch) c.self.view_is ∙ c.requires) c.if-self.true);
   bounded = (kept-settled g.L.Log _ _ _ _ _ _ _ _ _ c.self.invariant (whole-stuck g.L.Log c.self.invariant.whole c.if-self.true)).bounded;
 }
 
@@ -27,7 +27,7 @@ returns-in_err-close g c =
     record {
       closes =
           rw (refused-is c.from_residual.result _ c.from_residual.ensures.1, ap error_of refused.only, ← c.self.view_is)
-          (closes-refused g.L.Log _ _ _ _ _ c.args.closing c.self.inside.sticky_log (ap (λ cache. cache.batch) c.self.view_is ∙ c.requires) c.if-self.false
+          (closes-refused g.L.Log _ _ _ _ _ c.args.closing c.self.inside.writer.sticky_log (ap (λ cache. cache.batch) c.self.view_is ∙ c.requires) c.if-self.false
           c.close.new.self (rw refused.only at refused.went) refused.reads (refused.cause.fault ∙ rw refused.only refl) (refused.cause.write (ap (λ r. Err r) refused.only)));
       bounded = (kept-settled g.L.Log _ _ _ _ _ _ _ _ _ c.self.invariant whole).bounded;
     }
@@ -43,6 +43,6 @@ returns g c =
     let opened = ap (λ cache. cache.batch) c.self.view_is ∙ c.requires in
     let whole = whole-closed g.L.Log c.self.invariant.whole c.if-self.false c.close.new.self done.same c.args.closing done.went in
     record {
-      closes = rw (← c.self.view_is) (closes g.L.Log _ _ _ _ _ c.args.closing c.self.inside.sticky_log opened c.if-self.false c.close.new.self done.went done.reads done.cause.fault);
+      closes = rw (← c.self.view_is) (closes g.L.Log _ _ _ _ _ c.args.closing c.self.inside.writer.sticky_log opened c.if-self.false c.close.new.self done.went done.reads done.cause.fault);
       bounded = (kept-settled g.L.Log _ _ _ _ _ _ _ _ _ c.self.invariant whole).bounded;
     }

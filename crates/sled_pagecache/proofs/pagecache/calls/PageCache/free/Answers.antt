@@ -21,7 +21,7 @@ pub free_page-freed-requires-clause-there : goal.free_page-freed-requires-clause
 free_page-freed-requires-clause-there g c = λ told.
     let fresh = c.in-Ok.ensures.1 in
     let within = slice_get_within _ c.args.pid _ fresh.at in
-    let long = beside-long g.L.Log.tells g.L.Log.state c.self.inside.sticky_log.log c.self.inside.pages.pages (c.self.invariant.whole.consistent.beside fresh.clear) told in
+    let long = beside-long g.L.Log.tells g.L.Log.state c.self.inside.writer.sticky_log.log c.self.inside.pages.pages (c.self.invariant.whole.consistent.beside fresh.clear) told in
     omega (arith, within, long)
 
 pub free_page-freed-requires-clause-lacks : goal.free_page-freed-requires-clause-lacks
@@ -36,7 +36,7 @@ invariant_of-self g c =
     (swap-ended g.L.Log c.self.invariant fresh c.requires tt page_content.Free tt (call.Free c.args.old) Freed (free-swap g.L.Log _ c.args.old) (λ cache. IsResident cache c.args.pid × HasNoNode cache c.args.pid)
     page _ c.new-token.ensures c.free_page-freed.result done.put tt refl
     (on_ok_weaker c.free_page-freed.result (λ freed holds. freed ∙ freed-at _ _ c.args.pid _ _ c.self.invariant.whole.consistent.free fresh.at fresh.full (ap is_free holds)) done.freed, done.unfreed) c.end_swap.ensures.evicts
-    (λ holds there none. (there, none (set-none inside.next inside.next inside.config inside.recovered inside.accesses.lru inside.sticky_log c.free_page-freed.new.sticky_log inside.pages.pages c.args.pid _ page fresh.at (ap (size_if (access_size page)) holds))))).0
+    (λ holds there none. (there, none (set-none inside.next inside.next inside.config inside.recovered inside.writer.accesses.lru inside.writer.sticky_log c.free_page-freed.new.writer.sticky_log inside.pages.pages c.args.pid _ page fresh.at (ap (size_if (access_size page)) holds))))).0
 
 pub returns : goal.returns
 returns g c =
@@ -48,4 +48,4 @@ returns g c =
     (swap-ended g.L.Log c.self.invariant fresh c.requires tt page_content.Free tt (call.Free c.args.old) Freed (free-swap g.L.Log _ c.args.old) (λ cache. IsResident cache c.args.pid × HasNoNode cache c.args.pid)
     page _ c.new-token.ensures c.free_page-freed.result done.put tt refl
     (on_ok_weaker c.free_page-freed.result (λ freed holds. freed ∙ freed-at _ _ c.args.pid _ _ c.self.invariant.whole.consistent.free fresh.at fresh.full (ap is_free holds)) done.freed, done.unfreed) c.end_swap.ensures.evicts
-    (λ holds there none. (there, none (set-none inside.next inside.next inside.config inside.recovered inside.accesses.lru inside.sticky_log c.free_page-freed.new.sticky_log inside.pages.pages c.args.pid _ page fresh.at (ap (size_if (access_size page)) holds))))).1
+    (λ holds there none. (there, none (set-none inside.next inside.next inside.config inside.recovered inside.writer.accesses.lru inside.writer.sticky_log c.free_page-freed.new.writer.sticky_log inside.pages.pages c.args.pid _ page fresh.at (ap (size_if (access_size page)) holds))))).1

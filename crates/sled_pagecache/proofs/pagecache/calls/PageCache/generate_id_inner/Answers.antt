@@ -19,7 +19,7 @@ own_counter-counter-requires g c = keeps-counter c.self.inside.pages.pages c.sel
 
 pub returns-then-self-2 : goal.returns-then-self-2
 returns-then-self-2 g c =
-    let step = id-used-up g.L.Log c.self.invariant c.if-self.false (g.met.L.Log.only_now c.self.inside.sticky_log.log) (omega (arith, c.if-self-2.true)) in
+    let step = id-used-up g.L.Log c.self.invariant c.if-self.false (g.met.L.Log.only_now c.self.inside.writer.sticky_log.log) (omega (arith, c.if-self-2.true)) in
     rw (← c.self.view_is) (search (rules, leaves-same, no_name))
 
 -- the counter covers the id
@@ -31,14 +31,14 @@ returns-then-start-interval_start g c =
     let inside = c.self.inside in
     let found = c.own_counter-counter.ensures in
     let covered = covered-next g.L.Log c.self.invariant.whole c.if-self.false found (omega (arith, c.interval_start-start.ensures, c.interval_start.ensures, c.if-start-interval_start.true)) in
-    let step = id-covered g.L.Log c.self.invariant c.if-self.false found.at found.counter (omega (arith, c.if-self-2.false)) c.interval_start-start.ensures c.interval_start.ensures (g.met.L.Log.only_now inside.sticky_log.log) c.if-start-interval_start.true in
+    let step = id-covered g.L.Log c.self.invariant c.if-self.false found.at found.counter (omega (arith, c.if-self-2.false)) c.interval_start-start.ensures c.interval_start.ensures (g.met.L.Log.only_now inside.writer.sticky_log.log) c.if-start-interval_start.true in
     let bounded = (kept-settled g.L.Log _ (inside.next + 1) _ _ _ _ _ _ _ c.self.invariant (whole-next g.L.Log c.self.invariant.whole)).bounded in
     rw (← c.self.view_is) (search (rules, covered, step, bounded))
 
 -- inside a batch no new counter is made
 pub returns-then-self-3 : goal.returns-then-self-3
 returns-then-self-3 g c =
-    let step = id-too-early g.L.Log c.self.invariant c.if-self.false c.own_counter-counter.ensures.at c.own_counter-counter.ensures.counter (omega (arith, c.if-self-2.false)) c.interval_start-start.ensures c.interval_start.ensures c.if-start-interval_start.false (g.met.L.Log.only_now c.self.inside.sticky_log.log) c.if-self-3.true in
+    let step = id-too-early g.L.Log c.self.invariant c.if-self.false c.own_counter-counter.ensures.at c.own_counter-counter.ensures.counter (omega (arith, c.if-self-2.false)) c.interval_start-start.ensures c.interval_start.ensures c.if-start-interval_start.false (g.met.L.Log.only_now c.self.inside.writer.sticky_log.log) c.if-self-3.true in
     rw (← c.self.view_is) (search (rules, leaves-same, no_name))
 
 pub put_counter-requires-clause-closed : goal.put_counter-requires-clause-closed
@@ -47,7 +47,7 @@ put_counter-requires-clause-closed g c = c.self.invariant.whole.consistent.opene
 pub put_counter-requires-clause-there : goal.put_counter-requires-clause-there
 put_counter-requires-clause-there g c = λ told.
     let whole = c.self.invariant.whole in
-    omega (arith, whole.consistent.both, beside-long g.L.Log.tells g.L.Log.state c.self.inside.sticky_log.log c.self.inside.pages.pages (whole.consistent.beside c.if-self.false) told)
+    omega (arith, whole.consistent.both, beside-long g.L.Log.tells g.L.Log.state c.self.inside.writer.sticky_log.log c.self.inside.pages.pages (whole.consistent.beside c.if-self.false) told)
 
 -- a new counter is put on its page
 pub invariant_of-self-in-Ok : goal.invariant_of-self-in-Ok

@@ -47,12 +47,12 @@ pull_and_link-linked-requires g c =
     record {
       ready = record { clear = fresh.clear; usable = beside.usable };
       there = λ told.
-          let long = beside-long g.L.Log.tells g.L.Log.state inside.sticky_log.log inside.pages.pages beside told in
+          let long = beside-long g.L.Log.tells g.L.Log.state inside.writer.sticky_log.log inside.pages.pages beside told in
           let within = slice_get_within inside.pages.pages c.args.pid q fresh.at in
           omega (arith, within, long);
-      kept = page-kept-at g.L.Log inside.sticky_log inside.sticky_log inside.pages.pages inside.free.ids.keys c.args.pid q q c.self.invariant.whole.consistent fresh.clear fresh.behind fresh.at;
+      kept = page-kept-at g.L.Log inside.writer.sticky_log inside.writer.sticky_log inside.pages.pages inside.free.ids.keys c.args.pid q q c.self.invariant.whole.consistent fresh.clear fresh.behind fresh.at;
       full = fresh.full;
-      own = page-own-at g.L.Log inside.sticky_log inside.sticky_log inside.pages.pages inside.free.ids.keys c.args.pid q q c.self.invariant.whole.consistent fresh.clear fresh.behind fresh.at;
+      own = page-own-at g.L.Log inside.writer.sticky_log inside.writer.sticky_log inside.pages.pages inside.free.ids.keys c.args.pid q q c.self.invariant.whole.consistent fresh.clear fresh.behind fresh.at;
     }
 
 pub invariant_of-self : goal.invariant_of-self

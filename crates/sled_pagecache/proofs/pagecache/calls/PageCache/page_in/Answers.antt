@@ -9,7 +9,7 @@ use Rattle.sled_pagecache.proofs.pagecache.calls.PageCache.page_in.Goals as goal
 
 pub pull_and_access-read-requires-clause-kept : goal.pull_and_access-read-requires-clause-kept
 pull_and_access-read-requires-clause-kept g c =
-    page-kept-at g.L.Log _ c.self.inside.sticky_log _ _ c.args.pid _ c.get_mut-page.result.now c.self.invariant.whole.consistent c.if-self.false (sym c.is_reserved.ensures ∙ c.if-is_reserved.false) c.get_mut-page.ensures.page
+    page-kept-at g.L.Log _ c.self.inside.writer.sticky_log _ _ c.args.pid _ c.get_mut-page.result.now c.self.invariant.whole.consistent c.if-self.false (sym c.is_reserved.ensures ∙ c.if-is_reserved.false) c.get_mut-page.ensures.page
 
 pub invariant_of-self : goal.invariant_of-self
 invariant_of-self g c =
@@ -19,15 +19,15 @@ invariant_of-self g c =
     let done = c.pull_and_access-read.ensures in
     let after = c.pull_and_access-read.new.page in
     let result = c.pull_and_access-read.result in
-    let own = done.pulled.own (page-own-at g.L.Log _ c.self.inside.sticky_log _ _ c.args.pid q q c.self.invariant.whole.consistent c.if-self.false behind at) in
+    let own = done.pulled.own (page-own-at g.L.Log _ c.self.inside.writer.sticky_log _ _ c.args.pid q q c.self.invariant.whole.consistent c.if-self.false behind at) in
     let whole =
     whole-then g.L.Log c.self.invariant.whole c.if-self.false (spares-none g.L.Log done.pulled.went) (other-at c.self.inside.pages.pages c.args.pid after (behind-counter c.args.pid (behind-own c.args.pid behind)))
     (same-consistent g.L.Log _ _ _ _ c.args.pid q after c.self.invariant.whole.consistent c.if-self.false behind at
     [] done.pulled.went refl done.pulled.same (λ known _. done.pulled.kept known) done.pulled.infos done.pulled.free own) in
     let paged_out = settles c.self.invariant whole c.evict.ensures in
     let found = makes-found paged_out c.args.pid result (λ kept. absurd (let clear = c.if-self.false in cc))
-    (finds-node _ _ _ _ _ _ _ c.args.pid q after at c.self.inside.accesses c.pull_and_access-read.new.accesses result done.accessed done.pulled.resident own done.pulled.free done.pulled.stays done.pulled.infos)
-    (refused-stay _ _ _ _ _ _ _ c.args.pid q after at c.self.inside.accesses c.pull_and_access-read.new.accesses result done.pulled.err done.pulled.infos) done.left in
+    (finds-node _ _ _ _ _ _ _ c.args.pid q after at c.self.inside.writer.accesses c.pull_and_access-read.new.writer.accesses result done.accessed done.pulled.resident own done.pulled.free done.pulled.stays done.pulled.infos)
+    (refused-stay _ _ _ _ _ _ _ c.args.pid q after at c.self.inside.writer.accesses c.pull_and_access-read.new.writer.accesses result done.pulled.err done.pulled.infos) done.left in
     settled c.self.invariant whole c.evict.ensures found.bounded
 
 pub returns-then-pid-count-clause-brings : goal.returns-then-pid-count-clause-brings
@@ -37,11 +37,11 @@ returns-then-pid-count-clause-brings g c = λ ready.
     let past : length table ≤ c.args.pid = omega (arith, c.if-pid-count.true, c.len-count.ensures.number) in
     let beside = c.self.invariant.whole.consistent.beside c.if-self.false in
     rw (← c.self.view_is) (record {
-      left = leaves-went g.L.Log _ _ (record { config = refl; recovered = refl }) refl refl (Went-none g.L.Log inside.sticky_log beside.usable (g.met.L.Log.only_now _)) (λ _ _. refl);
+      left = leaves-went g.L.Log _ _ (record { config = refl; recovered = refl }) refl refl (Went-none g.L.Log inside.writer.sticky_log beside.usable (g.met.L.Log.only_now _)) (λ _ _. refl);
       cause = record { fault = c.if-self.false; read = λ h. cc; write = λ h. cc; full = λ h. cc };
       sound = λ known damaged.
           let long = AllZip-long IsKept _ table (beside.kept known) in
-          absurd (false≢true (sym damaged.0 ∙ ap (is_empty effect_of_entry) (get_or_past (now effect_of_entry (g.L.Log.state inside.sticky_log.log)) c.args.pid [] (omega (arith, past, long)))));
+          absurd (false≢true (sym damaged.0 ∙ ap (is_empty effect_of_entry) (get_or_past (now effect_of_entry (g.L.Log.state inside.writer.sticky_log.log)) c.args.pid [] (omega (arith, past, long)))));
       in_memory = (sym c.is_reserved.ensures ∙ c.if-is_reserved.false, λ away. none-some false (sym (slice_get_past (resident_in table) c.args.pid (omega (arith, past, length-map table (λ (page : Page). is_resident page.kept)))) ∙ away));
       refused = λ _. tt;
     })
@@ -50,7 +50,7 @@ pub returns-then-pid-count-clause-accesses : goal.returns-then-pid-count-clause-
 returns-then-pid-count-clause-accesses g c =
     let inside = c.self.inside in
     rw (← c.self.view_is)
-    (inr (keeps-same _, past-view inside.next inside.next inside.config inside.recovered inside.accesses.lru inside.sticky_log inside.sticky_log inside.pages.pages c.args.pid (omega (arith, c.if-pid-count.true, c.len-count.ensures.number))))
+    (inr (keeps-same _, past-view inside.next inside.next inside.config inside.recovered inside.writer.accesses.lru inside.writer.sticky_log inside.writer.sticky_log inside.pages.pages c.args.pid (omega (arith, c.if-pid-count.true, c.len-count.ensures.number))))
 
 pub returns-then-self-clause-same : goal.returns-then-self-clause-same
 returns-then-self-clause-same g c = keeps-same c.args.self.now
@@ -77,16 +77,16 @@ returns g c =
     let done = c.pull_and_access-read.ensures in
     let after = c.pull_and_access-read.new.page in
     let result = c.pull_and_access-read.result in
-    let own = done.pulled.own (page-own-at g.L.Log _ c.self.inside.sticky_log _ _ c.args.pid q q c.self.invariant.whole.consistent c.if-self.false behind at) in
+    let own = done.pulled.own (page-own-at g.L.Log _ c.self.inside.writer.sticky_log _ _ c.args.pid q q c.self.invariant.whole.consistent c.if-self.false behind at) in
     let whole =
     whole-then g.L.Log c.self.invariant.whole c.if-self.false (spares-none g.L.Log done.pulled.went) (other-at table c.args.pid after (behind-counter c.args.pid (behind-own c.args.pid behind)))
     (same-consistent g.L.Log _ _ _ _ c.args.pid q after c.self.invariant.whole.consistent c.if-self.false behind at
     [] done.pulled.went refl done.pulled.same (λ known _. done.pulled.kept known) done.pulled.infos done.pulled.free own) in
     let paged_out = settles c.self.invariant whole c.evict.ensures in
     let found = makes-found paged_out c.args.pid result (λ kept. absurd (let clear = c.if-self.false in cc))
-    (finds-node _ _ _ _ _ _ _ c.args.pid q after at c.self.inside.accesses c.pull_and_access-read.new.accesses result done.accessed done.pulled.resident own done.pulled.free done.pulled.stays done.pulled.infos)
-    (refused-stay _ _ _ _ _ _ _ c.args.pid q after at c.self.inside.accesses c.pull_and_access-read.new.accesses result done.pulled.err done.pulled.infos) done.left in
-    let listed = listed-at inside.next inside.config inside.recovered inside.accesses.lru inside.sticky_log inside.sticky_log table c.args.pid q q at inside.accesses inside.accesses c.self.invariant.bounded.listed in
+    (finds-node _ _ _ _ _ _ _ c.args.pid q after at c.self.inside.writer.accesses c.pull_and_access-read.new.writer.accesses result done.accessed done.pulled.resident own done.pulled.free done.pulled.stays done.pulled.infos)
+    (refused-stay _ _ _ _ _ _ _ c.args.pid q after at c.self.inside.writer.accesses c.pull_and_access-read.new.writer.accesses result done.pulled.err done.pulled.infos) done.left in
+    let listed = listed-at inside.next inside.config inside.recovered inside.writer.accesses.lru inside.writer.sticky_log inside.writer.sticky_log table c.args.pid q q at inside.writer.accesses inside.writer.accesses c.self.invariant.bounded.listed in
     let there : is_resident q.kept ≡ true → IsOk result = λ held. done.is_there held listed in
     rw (← c.self.view_is) (record {
       stuck = λ kept. absurd (let clear = c.if-self.false in cc);

@@ -20,7 +20,7 @@ pub put_node-put-requires-clause-there : goal.put_node-put-requires-clause-there
 put_node-put-requires-clause-there g c = λ told.
     let fresh = c.in-Ok.ensures.1 in
     let within = slice_get_within _ c.args.pid _ fresh.at in
-    let long = beside-long g.L.Log.tells g.L.Log.state c.self.inside.sticky_log.log c.self.inside.pages.pages (c.self.invariant.whole.consistent.beside fresh.clear) told in
+    let long = beside-long g.L.Log.tells g.L.Log.state c.self.inside.writer.sticky_log.log c.self.inside.pages.pages (c.self.invariant.whole.consistent.beside fresh.clear) told in
     omega (arith, within, long)
 
 pub invariant_of-self : goal.invariant_of-self

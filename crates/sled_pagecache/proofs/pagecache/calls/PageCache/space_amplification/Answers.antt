@@ -19,7 +19,7 @@ returns-in_err-pages-clause-step g c =
     let refused = c.in_err-pages.ensures in
     let whole = c.self.invariant.whole.consistent in
     rw (refused-is c.from_residual.result _ c.from_residual.ensures.1, ← c.self.view_is)
-    (unmeasured g.L.Log _ _ _ _ c.self.inside.sticky_log c.self.inside.pages.pages c.if-self.false c.total_rss.new.sticky_log refused.read.went _ refused.read.cause whole.own refused.refused)
+    (unmeasured g.L.Log _ _ _ _ c.self.inside.writer.sticky_log c.self.inside.pages.pages c.if-self.false c.total_rss.new.sticky_log refused.read.went _ refused.read.cause whole.own refused.refused)
 
 pub returns-in_err-pages-clause-damaged : goal.returns-in_err-pages-clause-damaged
 returns-in_err-pages-clause-damaged g c = λ known ready.
@@ -31,7 +31,7 @@ returns-in_err-pages-clause-damaged g c = λ known ready.
 pub returns-in_err-pages-clause-reads : goal.returns-in_err-pages-clause-reads
 returns-in_err-pages-clause-reads g c = λ known.
     rw (refused-is c.from_residual.result _ c.from_residual.ensures.1, ← c.self.view_is)
-    (read-part-of g.L.Log.counts _ _ c.self.inside.sticky_log.log c.total_rss.new.sticky_log.log ((c.self.invariant.whole.consistent.beside c.if-self.false).kept known) _ _ c.in_err-pages.ensures.read.reads)
+    (read-part-of g.L.Log.counts _ _ c.self.inside.writer.sticky_log.log c.total_rss.new.sticky_log.log ((c.self.invariant.whole.consistent.beside c.if-self.false).kept known) _ _ c.in_err-pages.ensures.read.reads)
 
 pub invariant_of-self-2 : goal.invariant_of-self-2
 invariant_of-self-2 g c =
@@ -42,9 +42,9 @@ pub returns-clause-step : goal.returns-clause-step
 returns-clause-step g c =
     let done = c.in_ok-pages.ensures in
     rw (← c.self.view_is)
-    (measures g.L.Log _ _ _ _ c.self.inside.sticky_log c.self.inside.pages.pages c.if-self.false c.total_rss.new.sticky_log done.read.went _ _ done.read.cause.fault done.total)
+    (measures g.L.Log _ _ _ _ c.self.inside.writer.sticky_log c.self.inside.pages.pages c.if-self.false c.total_rss.new.sticky_log done.read.went _ _ done.read.cause.fault done.total)
 
 pub returns-clause-reads : goal.returns-clause-reads
 returns-clause-reads g c = λ known.
     rw (← c.self.view_is)
-    (read-all-of g.L.Log.counts _ _ c.self.inside.sticky_log.log c.total_rss.new.sticky_log.log ((c.self.invariant.whole.consistent.beside c.if-self.false).kept known) _ _ c.in_ok-pages.ensures.read.reads)
+    (read-all-of g.L.Log.counts _ _ c.self.inside.writer.sticky_log.log c.total_rss.new.sticky_log.log ((c.self.invariant.whole.consistent.beside c.if-self.false).kept known) _ _ c.in_ok-pages.ensures.read.reads)

@@ -10,15 +10,15 @@ returns-then-self-clause-step g c = rw (← c.self.view_is) (steps-stuck g.L.Log
 pub returns-in_err-states_of-clause-step : goal.returns-in_err-states_of-clause-step
 returns-in_err-states_of-clause-step g c =
     rw (refused-is c.from_residual.result _ c.from_residual.ensures.1, ← c.self.view_is)
-    (snaps-refused g.L.Log _ _ _ _ c.self.inside.sticky_log c.self.inside.pages.pages c.if-self.false (c.self.invariant.whole.consistent.beside c.if-self.false) (g.met.L.Log.only_now _))
+    (snaps-refused g.L.Log _ _ _ _ c.self.inside.writer.sticky_log c.self.inside.pages.pages c.if-self.false (c.self.invariant.whole.consistent.beside c.if-self.false) (g.met.L.Log.only_now _))
 
 pub returns-clause-step : goal.returns-clause-step
 returns-clause-step g c =
     rw (← c.self.view_is)
-    (snaps g.L.Log _ _ _ _ c.self.inside.sticky_log c.self.inside.pages.pages c.if-self.false (c.self.invariant.whole.consistent.beside c.if-self.false) (g.met.L.Log.only_now _) _ c.in_ok-states_of.ensures)
+    (snaps g.L.Log _ _ _ _ c.self.inside.writer.sticky_log c.self.inside.pages.pages c.if-self.false (c.self.invariant.whole.consistent.beside c.if-self.false) (g.met.L.Log.only_now _) _ c.in_ok-states_of.ensures)
 
 pub returns-clause-snapshot : goal.returns-clause-snapshot
 returns-clause-snapshot g c =
     rw (← c.self.view_is)
-    (is-snapshot g.L.Log _ _ _ _ c.self.inside.sticky_log c.self.inside.pages.pages c.if-self.false (c.self.invariant.whole.consistent.beside c.if-self.false) _ c.in_ok-states_of.ensures
+    (is-snapshot g.L.Log _ _ _ _ c.self.inside.writer.sticky_log c.self.inside.pages.pages c.if-self.false (c.self.invariant.whole.consistent.beside c.if-self.false) _ c.in_ok-states_of.ensures
     (ap (λ lsn. Some lsn) (to_z-of_z w64 c.stable_offset.result (search rules) ∙ c.stable_offset.ensures)) refl)

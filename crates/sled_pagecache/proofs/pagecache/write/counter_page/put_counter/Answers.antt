@@ -14,7 +14,7 @@ returns-then-page-clause-put g c = refuses-unasked g.L.Log c.requires.ready.clea
 
 -- the access was refused
 pub returns-in_default-clause-put : goal.returns-in_default-clause-put
-returns-in_default-clause-put g c = refuses-memory g.L.Log c.requires.ready.clear c.requires.ready.usable (g.met.L.Log.only_now c.args.sticky_log.now.log) (written-update (Put (Counter c.args.n)) (omega arith)) (inr (c.if-page.false, tt)) refl (search rules)
+returns-in_default-clause-put g c = refuses-memory g.L.Log c.requires.ready.clear c.requires.ready.usable (g.met.L.Log.only_now c.args.writer.now.sticky_log.log) (written-update (Put (Counter c.args.n)) (omega arith)) (inr (c.if-page.false, tt)) refl (search rules)
 
 -- the log refused it
 pub returns-in_err-info-clause-put : goal.returns-in_err-info-clause-put

@@ -8,7 +8,7 @@ use Rattle.sled_pagecache.proofs.pagecache.write.page_link.put_linked.Goals as g
 
 pub returns-in_default-apply : goal.returns-in_default-apply
 returns-in_default-apply g c =
-    let none = Went-none g.L.Log c.args.sticky_log.now c.requires.ready.usable (search rules) in
+    let none = Went-none g.L.Log c.args.writer.now.sticky_log c.requires.ready.usable (search rules) in
     let accepts = subst (λ held. AcceptsAt held c.args.link.now) c.in-Node.is c.requires.accepted in
     grind arith
 
@@ -16,12 +16,12 @@ pub returns-in_default-access : goal.returns-in_default-access
 returns-in_default-access g c =
     let page = c.args.page.now in
     let accepts = subst (λ held. AcceptsAt held c.args.link.now) c.in-Node.is c.requires.accepted in
-    let none = Went-none g.L.Log c.args.sticky_log.now c.requires.ready.usable (g.met.L.Log.only_now c.args.sticky_log.now.log) in
+    let none = Went-none g.L.Log c.args.writer.now.sticky_log c.requires.ready.usable (g.met.L.Log.only_now c.args.writer.now.sticky_log.log) in
     let full = λ (told : g.L.Log.tells). page-full _ c.args.pid (c.requires.there told) page (c.requires.kept told) c.args.link.now c.in-Node.node c.apply.new.self c.in-Node.is accepts c.in-Ok.ensures.applied in
     grind arith
 
 pub write_node-requires-clause-can : goal.write_node-requires-clause-can
-write_node-requires-clause-can g c = λ told. le-leb c.args.pid (length (now effect_of_entry (g.L.Log.state c.args.sticky_log.now.log))) (let there = c.requires.there told in omega (arith, there))
+write_node-requires-clause-can g c = λ told. le-leb c.args.pid (length (now effect_of_entry (g.L.Log.state c.args.writer.now.sticky_log.log))) (let there = c.requires.there told in omega (arith, there))
 
 pub returns-in-Ok-write_node : goal.returns-in-Ok-write_node
 returns-in-Ok-write_node g c =
@@ -32,7 +32,7 @@ returns-in-Ok-write_node g c =
     let applies = c.in-Ok.ensures.applied in
     let linked = λ (told : g.L.Log.tells). page-put _ c.args.pid (c.requires.there told) page (c.requires.kept told) c.args.link.now c.in-Node.node c.apply.new.self c.in-Node.is accepts applies _ done.info (writes.chains told) c.keep_alone.new.page done.ensures.is
     c.keep_alone.ensures.infos c.keep_alone.ensures.kept in
-    let accessed = subst (λ n. WasAccessed c.args.accesses.now c.args.pid n c.access.new.self)
+    let accessed = subst (λ n. WasAccessed c.args.writer.now.accesses c.args.pid n c.access.new.self)
     (capped-total (head_size + c.written_size-size.result) c.size_with.result c.size_with.ensures ∙ size-alone c.keep_alone.new.page.infos.items done.info c.written_size-size.result c.keep_alone.ensures.infos (writes.size.0 ∙ ap (λ n. head_size + n) (sym c.written_size-size.ensures.value)))
     c.in-Ok-access.ensures.accessed in
     link-applied g.L.Log c.in-Node.is accepts c.requires.below (put-update (length page.infos.items) c.args.link.now c.in-Node.node c.apply.new.self page.kept c.requires.many applies c.in-Node.is) (many-are-put _ c.requires.many) done.ensures linked c.keep_alone.ensures.stamp

@@ -9,7 +9,7 @@ returns g c =
 
 -- the access was refused
 pub returns-in_default : goal.returns-in_default
-returns-in_default g c = refuses-memory g.L.Log c.requires.ready.clear c.requires.ready.usable (g.met.L.Log.only_now c.args.sticky_log.now.log) c.payload_size-size.ensures.is tt refl (search rules)
+returns-in_default g c = refuses-memory g.L.Log c.requires.ready.clear c.requires.ready.usable (g.met.L.Log.only_now c.args.writer.now.sticky_log.log) c.payload_size-size.ensures.is tt refl (search rules)
 
 -- the log refused it
 pub returns-in_err-info : goal.returns-in_err-info

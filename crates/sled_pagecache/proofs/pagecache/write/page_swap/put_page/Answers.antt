@@ -13,7 +13,7 @@ returns-then-page g c = refuses-unasked g.L.Log c.requires.ready.clear c.require
 
 -- the access was refused
 pub returns-in_default : goal.returns-in_default
-returns-in_default g c = refuses-memory g.L.Log c.requires.ready.clear c.requires.ready.usable (g.met.L.Log.only_now c.args.sticky_log.now.log) c.payload_size-payload.ensures.is (inr (c.if-page.false, tt)) refl (search rules)
+returns-in_default g c = refuses-memory g.L.Log c.requires.ready.clear c.requires.ready.usable (g.met.L.Log.only_now c.args.writer.now.sticky_log.log) c.payload_size-payload.ensures.is (inr (c.if-page.false, tt)) refl (search rules)
 
 -- the log refused it
 pub returns-in_err-info : goal.returns-in_err-info

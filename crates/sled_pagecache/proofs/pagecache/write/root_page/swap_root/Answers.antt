@@ -28,6 +28,6 @@ returns-in_err-info g c =
     let is = c.in-Roots.is ∙ ap page_content.Roots (sym c.as_mut-roots.ensures.roots) in
     let refused = c.in_err-info.ensures in
     let roots = changed_roots c.args.name.now c.args.root (roots_in c.args.page.now.kept) in
-    let wrote : Wrote g.L.Log c.args.sticky_log.now c.put_changed.new.sticky_log 0 (Put (Roots roots)) (c.args.page.now.stamp + 1) (Err c.in_err-info.field-0.0) =
+    let wrote : Wrote g.L.Log c.args.writer.now.sticky_log c.put_changed.new.writer.sticky_log 0 (Put (Roots roots)) (c.args.page.now.stamp + 1) (Err c.in_err-info.field-0.0) =
     rw is (record { is = written-update (Put (Roots (changed_roots c.args.name.now c.args.root c.as_mut-roots.result.now))) (changed_map c.args.name.now c.args.root c.as_mut-roots.result.now c.len.ensures.map (search rules) (search rules)); writes = refused.put.writes }) in
     rw (refused-is c.from_residual.result _ c.from_residual.ensures.1) (refuses-written g.L.Log wrote (λ of. inr (c.if-page.false, of)) (same-page _ _ _ _ (ap page_content.Roots refused.left ∙ sym is)) refused.put.touched)
