@@ -55,7 +55,7 @@ pub use Rattle.sled_node.specs.Payloads.Roots.{ReadsRoots}
 pub use Rattle.sled_pagecache.proofs.Steps.Refusals.{no_name, refused-is}
 pub use Rattle.sled_pagecache.specs.Inside.PageEntry.{IsTouched, WasAccessed, capped_size}
 pub use Rattle.sled_pagecache.specs.Inside.NewPages.{HasOneMore, RefusesPage}
-pub use Rattle.sled_pagecache.specs.Inside.Appends.{Appended, MakesAppend, MakesNewPage, Puts, PutsOnNewPage, RefusesAppend}
+pub use Rattle.sled_pagecache.specs.Inside.Appends.{Appended, MakesAppend, MakesNewPage, Puts, PutsOnNewPage, RefusesAppend, writer}
 pub use Rattle.sled_pagecache.specs.Answers.{HasNoName, Keeps, NamesOnly, stamps_after_root_swap, stamps_with, stamps_after_swap}
 pub use Rattle.sled_pagecache.specs.Logged.{AllById, FitsId}
 pub use Rattle.sled_pagecache.specs.Cache.{Cache, IsAway, Represents, IsResident, KnowsLog, chain_length, chain_size}

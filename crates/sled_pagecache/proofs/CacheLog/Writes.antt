@@ -1,5 +1,5 @@
 -- What is promised of a page where its message was written to the log, where the log refused it, and where none was told to it.
-use Rattle.sled_pagecache.proofs.Names.{Appended, ◌≡◌, ◌≢◌, ◌<◌, ◌+◌, ℕ, true, false, List, [], ◌∷◌, length, refl, ◌∙◌, subst, inl, Ok, Err, Refusal, OutOfMemory, Why, LogFull, Change, Update, Put, Message, Messages, effect_of, effect_of_entry, now, IsLeft, unplaced_state, IsUpdate, message_of, head_size, Ghosts, StickyLog, Accesses, CacheInfo, Page, PageContent, chain_at, Went, Went-none, IsCaused-handed_on, IsOfLog, WasAccessed, IsTouched, capped_size, CanPut, content_of, WritesMessage, Wrote, WritesMap, RefusesAppend, arith, Result, Token, pid_of, stamp_of, token}
+use Rattle.sled_pagecache.proofs.Names.{Appended, ◌≡◌, ◌≢◌, ◌<◌, ◌+◌, ℕ, true, false, List, [], ◌∷◌, length, refl, ◌∙◌, subst, inl, Ok, Err, Refusal, OutOfMemory, Why, LogFull, Change, Update, Put, Message, Messages, effect_of, effect_of_entry, now, IsLeft, unplaced_state, IsUpdate, message_of, head_size, Ghosts, StickyLog, Accesses, CacheInfo, Page, PageContent, chain_at, Went, Went-none, IsCaused-handed_on, IsOfLog, WasAccessed, IsTouched, capped_size, CanPut, content_of, WritesMessage, Wrote, WritesMap, RefusesAppend, arith, Result, Token, pid_of, stamp_of, token, writer}
 use Rattle.sled_base.specs.declared.types.Refusal.TheVariants.{Unsupported}
 use Rattle.sled_pagecache.proofs.Links.LinkedChains.{begun-handed}
 use Rattle.sled_pagecache.proofs.Sizes.ChainSizes.{size-alone}
@@ -18,7 +18,7 @@ module _ {L : Type 0} (g : Ghosts L) where
     pub writes-none : {pid : ℕ} {m : Message} {stamp : ℕ} → WritesMessage g old old pid m stamp (Err OutOfMemory)
     writes-none = grind (arith, Went-none g old usable only)
 
-    pub writes-no-map : {accesses : Accesses} {payload : List ℕ} {stamp : ℕ} → WritesMap g old old accesses accesses payload stamp (Err OutOfMemory)
+    pub writes-no-map : {accesses : Accesses} {payload : List ℕ} {stamp : ℕ} → WritesMap g (writer old accesses) (writer old accesses) payload stamp (Err OutOfMemory)
     writes-no-map = record { writes = writes-none; accessed = tt; touched = inl refl }
 
     -- memory ran out

@@ -1,5 +1,5 @@
 -- A link that was made, or refused, once what the list dropped for it is paged out: what it answers.
-use Rattle.sled_pagecache.proofs.Names.{inl, link_answer, link_behind, lost_by, no_name, HasNoName, KeepsMemory, ReadsNothing, IfOk, IfErr, OnOk, OnErr, stamp_of, slice_get, subst, IsFresh, ◌≡◌, ◌+◌, ℕ, Bool, List, nat_lt, Some, Result, Ok, Err, slice_set, refl, sym, ◌∙◌, ap, error_of, Refusal, Ghosts, Cache, IsResident, IsAway, IsBounded, AccessesPage, EvictsAtMost, MeetsDamage, ReportsDamage, ReadsPage, Keeps, Acts, IsBlamed, TestsFirst, stamps_after_swap, Swapped, is_free, chain_length, linked_length, IsAnswered, Token, token, Linked, Config, StickyLog, Accesses, Page, NodeLink, Rejection, IsWhole, Evicts, IsSettled, behind-own, view}
+use Rattle.sled_pagecache.proofs.Names.{inl, link_answer, link_behind, lost_by, no_name, HasNoName, KeepsMemory, ReadsNothing, IfOk, IfErr, OnOk, OnErr, stamp_of, slice_get, subst, IsFresh, ◌≡◌, ◌+◌, ℕ, Bool, List, nat_lt, Some, Result, Ok, Err, slice_set, refl, sym, ◌∙◌, ap, error_of, Refusal, Ghosts, Cache, IsResident, IsAway, IsBounded, AccessesPage, EvictsAtMost, MeetsDamage, ReportsDamage, ReadsPage, Keeps, Acts, IsBlamed, TestsFirst, stamps_after_swap, Swapped, is_free, chain_length, linked_length, IsAnswered, Token, token, Linked, Config, StickyLog, Accesses, Page, NodeLink, Rejection, IsWhole, Evicts, IsSettled, behind-own, view, writer}
 use Rattle.sled_pagecache.proofs.Steps.KeptStamps.{keeps-err}
 use Rattle.sled_pagecache.proofs.Steps.CacheSteps.{steps-known}
 use Rattle.sled_pagecache.proofs.Ids.DurableCounter.{spares-other, behind-counter, other-at, spares-link, whole-then}
@@ -40,7 +40,7 @@ LinkPromises g was pid old link now done = let result = link_answer done link in
 module _ {L : Type 0} (g : Ghosts L) {next : ℕ} {config : Config} {recovered : Bool} {before after : StickyLog L} {table pages : List Page} {free : List ℕ} {accesses between then : Accesses}
     (is : IsSettled g next config recovered before table free accesses) {pid : ℕ} {old : Token} {q : Page} (fresh : IsFresh before.fault table pid old q) (same : old.pid ≡ pid) {link : NodeLink} where
   -- once what the list dropped for it is paged out
-  pub link-ended : (page : Page) (made : Token) → made ≡ token pid page.stamp → (written : Result Bool Refusal) → PutsLink g before pid q link after accesses between page written
+  pub link-ended : (page : Page) (made : Token) → made ≡ token pid page.stamp → (written : Result Bool Refusal) → PutsLink g (writer before accesses) pid q link (writer after between) page written
       → Evicts between (lost_by made.pid written) (slice_set table pid page) pages then
       → (let was = view next config recovered accesses.lru before table in let now = view next config recovered then.lru after pages in
       IsSettled g next config recovered after pages free then × LinkPromises g was pid old link now (link_behind made written))

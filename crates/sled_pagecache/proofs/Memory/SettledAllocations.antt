@@ -1,6 +1,6 @@
 -- A node that was put on a page that had none, or was refused, once what the list dropped for it is paged out: what an allocation answers.
 use Rattle.sled_pagecache.specs.Inside.Appends.{Puts, PutsOnNewPage}
-use Rattle.sled_pagecache.proofs.Names.{inr, allocation_behind, no_name, HasNoName, ReadsNothing, IfOk, IfErr, OnOk, OnErr, ◌≡◌, ◌<◌, ◌+◌, ◌^◌, ℕ, Bool, false, List, [], ◌∷◌, ◌++◌, length, Some, None, Result, Ok, Err, slice_get, slice_set, refl, sym, ◌∙◌, ap, subst, arith, same_Some, error_of, Error, Refusal, Change, message_of, begun_by, Put, Node, Ghosts, WholeNode, Cache, IsResident, HasNoNode, IsBounded, AccessesPage, LeavesNodes, RefusesSwap, RefusesAppend, Keeps, Acts, IsBlamed, stamps_with, stamps_in, resident_in, is_free, IsFreeOrNode, IsConsistent, Token, token, pid_of, stamp_of, Allocate, Allocated, Config, StickyLog, Accesses, Page, IsWhole, Evicts, IsSettled, put-back, view}
+use Rattle.sled_pagecache.proofs.Names.{inr, allocation_behind, no_name, HasNoName, ReadsNothing, IfOk, IfErr, OnOk, OnErr, ◌≡◌, ◌<◌, ◌+◌, ◌^◌, ℕ, Bool, false, List, [], ◌∷◌, ◌++◌, length, Some, None, Result, Ok, Err, slice_get, slice_set, refl, sym, ◌∙◌, ap, subst, arith, same_Some, error_of, Error, Refusal, Change, message_of, begun_by, Put, Node, Ghosts, WholeNode, Cache, IsResident, HasNoNode, IsBounded, AccessesPage, LeavesNodes, RefusesSwap, RefusesAppend, Keeps, Acts, IsBlamed, stamps_with, stamps_in, resident_in, is_free, IsFreeOrNode, IsConsistent, Token, token, pid_of, stamp_of, Allocate, Allocated, Config, StickyLog, Accesses, Page, IsWhole, Evicts, IsSettled, put-back, view, writer}
 use Rattle.sled_pagecache.proofs.Steps.Allocations.{IsLastFree, last-at, taken-last, free-from, adds-refused, adds-done, reuses-refused, reuses-done}
 use Rattle.sled_pagecache.proofs.Steps.KeptStamps.{keeps-err, keeps-ok, stamps-added, stamps-reused}
 use Rattle.sled_pagecache.proofs.Memory.SettledAppends.{after-made}
@@ -65,7 +65,7 @@ module _ {L : Type 0} (g : Ghosts L) {next : ℕ} {config : Config} {recovered :
 
   -- ---- no page is free
 
-  pub added : free ≡ [] → (written : Result (Unit {0}) Refusal) → PutsOnNewPage g node before after accesses between table changed written → Evicts between None changed pages then
+  pub added : free ≡ [] → (written : Result (Unit {0}) Refusal) → PutsOnNewPage g node (writer before accesses) (writer after between) table changed written → Evicts between None changed pages then
       → (made : Token) → made ≡ token (length table) 1
       → (let was = view next config recovered accesses.lru before table in let now = view next config recovered then.lru after pages in
       IsSettled g next config recovered after pages free then × PagePromises g was node now (allocation_behind made written))
@@ -108,7 +108,7 @@ module _ {L : Type 0} (g : Ghosts L) {next : ℕ} {config : Config} {recovered :
 
 module _ {L : Type 0} (g : Ghosts L) {next : ℕ} {config : Config} {recovered : Bool} {before after : StickyLog L} {table pages : List Page} {free front : List ℕ} {accesses between then : Accesses}
     (is : IsSettled g next config recovered before table free accesses) (clear : before.fault ≡ false) (node : WholeNode) {pid : ℕ} {q : Page} (last : IsLastFree 0 table front pid) (at : slice_get table pid ≡ Some q) where
-  pub reused : (page : Page) (written : Result (Unit {0}) Refusal) → Puts g pid (page_content.Node node) before after accesses between q page written → {free_then : List ℕ} → OnOk written (free_then ≡ front) → OnErr written (free_then ≡ free)
+  pub reused : (page : Page) (written : Result (Unit {0}) Refusal) → Puts g pid (page_content.Node node) (writer before accesses) (writer after between) q page written → {free_then : List ℕ} → OnOk written (free_then ≡ front) → OnErr written (free_then ≡ free)
       → Evicts between None (slice_set table pid page) pages then → (made : Token) → made ≡ token pid page.stamp
       → (let was = view next config recovered accesses.lru before table in let now = view next config recovered then.lru after pages in
       IsSettled g next config recovered after pages free_then then × PagePromises g was node now (allocation_behind made written))

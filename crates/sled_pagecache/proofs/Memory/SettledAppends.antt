@@ -1,5 +1,5 @@
 -- What follows from an append to one page that was made, or refused, once what the list dropped for it is paged out.
-use Rattle.sled_pagecache.proofs.Names.{answered, inl, lost_by, answer_behind, content_of, no_name, HasNoName, KeepsMemory, ReadsNothing, IfOk, IfErr, OnOk, IsFresh, ◌≡◌, ◌≤◌, ◌+◌, ℕ, Bool, true, false, List, [], ◌∷◌, Some, None, Result, Ok, Err, slice_get, slice_set, refl, sym, ◌∙◌, ap, subst, arith, slice_get_within, error_of, Error, Refusal, Change, message_of, begun_by, Put, Update, Ghosts, Cache, IsResident, HasNoNode, HasNoRoom, chain_length, IsBounded, AccessesPage, EvictsAtMost, MakesAppend, RefusesAppend, OnErr, Keeps, Acts, IsBlamed, stamps_after_swap, Swapped, SwapsContent, stamps_in, is_resident, free_ids, IsFreeOrNode, IsAnswered, Token, token, Answer, Call, Config, StickyLog, Accesses, Page, PageContent, IsWhole, Evicts, IsSettled, behind-own, put-back, view}
+use Rattle.sled_pagecache.proofs.Names.{answered, inl, lost_by, answer_behind, content_of, no_name, HasNoName, KeepsMemory, ReadsNothing, IfOk, IfErr, OnOk, IsFresh, ◌≡◌, ◌≤◌, ◌+◌, ℕ, Bool, true, false, List, [], ◌∷◌, Some, None, Result, Ok, Err, slice_get, slice_set, refl, sym, ◌∙◌, ap, subst, arith, slice_get_within, error_of, Error, Refusal, Change, message_of, begun_by, Put, Update, Ghosts, Cache, IsResident, HasNoNode, HasNoRoom, chain_length, IsBounded, AccessesPage, EvictsAtMost, MakesAppend, RefusesAppend, OnErr, Keeps, Acts, IsBlamed, stamps_after_swap, Swapped, SwapsContent, stamps_in, is_resident, free_ids, IsFreeOrNode, IsAnswered, Token, token, Answer, Call, Config, StickyLog, Accesses, Page, PageContent, IsWhole, Evicts, IsSettled, behind-own, put-back, view, writer}
 use Rattle.sled_pagecache.proofs.Steps.KeptStamps.{keeps-err}
 use Rattle.sled_pagecache.proofs.Steps.CacheSteps.{steps-known}
 use Rattle.sled_pagecache.proofs.Ids.DurableCounter.{spares-other, behind-counter, other-at, spares-refused, whole-then}
@@ -151,7 +151,7 @@ module _ {L : Type 0} (g : Ghosts L) {next : ℕ} {config : Config} {recovered :
     (swap : let cache = view next config recovered accesses.lru before table in IsSwap g cache old given call answered (λ s answer out _. SwapsContent (chain_length g.state cache) (HasNoRoom g before.log) s old (Put (content_of held)) (content_of held) answer out))
     (LiesThere : Cache L → Type 0) where
   -- once what the list dropped for it is paged out
-  pub swap-ended : (page : Page) (made : Token) → made ≡ token pid page.stamp → (written : Result (Unit {0}) Refusal) → Puts g pid held before after accesses between q page written → IsFreeOrNode held → is_resident held ≡ true
+  pub swap-ended : (page : Page) (made : Token) → made ≡ token pid page.stamp → (written : Result (Unit {0}) Refusal) → Puts g pid held (writer before accesses) (writer after between) q page written → IsFreeOrNode held → is_resident held ≡ true
       → OnOk written (page.kept ≡ held → free_then ≡ free_ids 0 (slice_set table pid page)) × OnErr written (free_then ≡ free) → Evicts between (lost_by made.pid written) (slice_set table pid page) pages then
       → (let now = view next config recovered then.lru after pages in page.kept ≡ held → IsResident now pid → (HasNoNode (view next config recovered accesses.lru after (slice_set table pid page)) pid → HasNoNode now pid) → LiesThere now)
       → (let was = view next config recovered accesses.lru before table in let now = view next config recovered then.lru after pages in

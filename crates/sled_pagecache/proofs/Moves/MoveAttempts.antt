@@ -1,5 +1,5 @@
 -- What an attempt to move a page promises, once what the list dropped for it is paged out.
-use Rattle.sled_pagecache.proofs.Names.{past-end, MovesOrNot, move_behind, Result, get_or_past, AllZip-long, lost_by, all-at, map-at, put-back, set-at, error_of, Write, Refusal, no_name, is_one_blob, MovesOne, RefusesOne, is_blob_at, reads_to_move, count_after, IsBounded, is_resident, is_free, PageContent, Err, None, inr, slice_set, false≢true, map-set, get_or_from_slice_get, Evicts, kept-at, DiskPtr, Chain, effect_of_entry, freed_of, Ghosts, Cache, HasNoRoomAgain, due_in, due_page, lies_in, pointers_of, segment_of, pointers_in, reads_of, AttemptsMove, MovesDue, is_there, chain_at, Went, IsKept, place_of_freeing, State, Moves, no_change, stamps_in, Accesses, AttemptedGc, AttemptGc, Config, StickyLog, Page, Bool, List, Ok, Some, ap, arith, cond, false, inl, length, map, refl, slice_get, sym, true, ℕ, ℤ, IsSettled, [], ◌==◌, ◌||◌, ◌∙◌, ◌∷◌, ◌≡◌, ◌≤◌, now as log_holds, view}
+use Rattle.sled_pagecache.proofs.Names.{past-end, MovesOrNot, move_behind, Result, get_or_past, AllZip-long, lost_by, all-at, map-at, put-back, set-at, error_of, Write, Refusal, no_name, is_one_blob, MovesOne, RefusesOne, is_blob_at, reads_to_move, count_after, IsBounded, is_resident, is_free, PageContent, Err, None, inr, slice_set, false≢true, map-set, get_or_from_slice_get, Evicts, kept-at, DiskPtr, Chain, effect_of_entry, freed_of, Ghosts, Cache, HasNoRoomAgain, due_in, due_page, lies_in, pointers_of, segment_of, pointers_in, reads_of, AttemptsMove, MovesDue, is_there, chain_at, Went, IsKept, place_of_freeing, State, Moves, no_change, stamps_in, Accesses, AttemptedGc, AttemptGc, Config, StickyLog, Page, Bool, List, Ok, Some, ap, arith, cond, false, inl, length, map, refl, slice_get, sym, true, ℕ, ℤ, IsSettled, [], ◌==◌, ◌||◌, ◌∙◌, ◌∷◌, ◌≡◌, ◌≤◌, now as log_holds, view, writer}
 use Rattle.sled_base.specs.Pointers.{offset_of}
 use Rattle.sled_base.specs.declared.types.Error.TheVariants.{Io}
 use Rattle.sled_pagecache.proofs.Steps.KeptStamps.{keeps-err, keeps-ok, keeps-stuck}
@@ -203,7 +203,7 @@ module _ {L : Type 0} (g : Ghosts L) {next : ℕ} {config : Config} {recovered :
           },
         )
 
-    pub move-ended : {pages : List Page} {then : Accesses} (written : Result (Unit {0}) Refusal) → MovesOrNot g before pid q after accesses between page written → Evicts between (lost_by pid written) (slice_set table pid page) pages then
+    pub move-ended : {pages : List Page} {then : Accesses} (written : Result (Unit {0}) Refusal) → MovesOrNot g (writer before accesses) pid q (writer after between) page written → Evicts between (lost_by pid written) (slice_set table pid page) pages then
         → (let now = view next config recovered then.lru after pages in IsSettled g next config recovered after pages free then × AttemptsMove g was (move_behind written) now)
     move-ended (Ok done) moved evicts = moved-ended moved evicts
     move-ended (Err refusal) refused evicts = unmoved-ended refused evicts

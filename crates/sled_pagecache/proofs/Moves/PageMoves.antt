@@ -1,5 +1,5 @@
 -- What moving a page makes of it: what is written again counts as what the page holds.
-use Rattle.sled_pagecache.proofs.Names.{MovesOrNot, HasNoRoomAgain, RefusesRewrite, now, get_or, freed_of, chains_from, chains_with_change, IsTouched, WasAccessed, capped_size, IsCaused, size_in, cond, ne_eqb, sum_by-cons, AllByRecursion, ◌++◌, LogKind, Blob, DiskPtr, is_chain, is_empty, is_freeing, may_follow, Entry, effect_of, effect_of_entry, placed_entry, IsSized, said_of, HoldsAgain, IsBlobOf, place_of, IsKept, place_of_freeing, CacheInfo, map, ℤ, ◌<◌, [], Read, Write, Io, Change, Event, counts-read, Message, Went, begun_by, IsCaused-since, List, Result, length, ◌∷◌, Refusal, Content, Put, holds-made, Chain, messages_of, Holds, IsUpdate, message_of, WholeNode, Appended, RefusesAppend, is_one_blob, MovesOne, RefusesOne, pointers_in, reads_of, chain_at, count_after, IsOfLog, Went-then, HoldsChain, is_resident, is_free, content_of, IsFreeOrNode, Accesses, StickyLog, PageContent, Page, Bool, Err, Ok, ap, arith, false, inl, inr, refl, slice_set, subst, sym, true, ℕ, false≢true, ◌∙◌, ◌≡◌, ◌⊎◌, Ghosts}
+use Rattle.sled_pagecache.proofs.Names.{MovesOrNot, HasNoRoomAgain, RefusesRewrite, now, get_or, freed_of, chains_from, chains_with_change, IsTouched, WasAccessed, capped_size, IsCaused, size_in, cond, ne_eqb, sum_by-cons, AllByRecursion, ◌++◌, LogKind, Blob, DiskPtr, is_chain, is_empty, is_freeing, may_follow, Entry, effect_of, effect_of_entry, placed_entry, IsSized, said_of, HoldsAgain, IsBlobOf, place_of, IsKept, place_of_freeing, CacheInfo, map, ℤ, ◌<◌, [], Read, Write, Io, Change, Event, counts-read, Message, Went, begun_by, IsCaused-since, List, Result, length, ◌∷◌, Refusal, Content, Put, holds-made, Chain, messages_of, Holds, IsUpdate, message_of, WholeNode, Appended, RefusesAppend, is_one_blob, MovesOne, RefusesOne, pointers_in, reads_of, chain_at, count_after, IsOfLog, Went-then, HoldsChain, is_resident, is_free, content_of, IsFreeOrNode, Accesses, StickyLog, PageContent, Page, Bool, Err, Ok, ap, arith, false, inl, inr, refl, slice_set, subst, sym, true, ℕ, false≢true, ◌∙◌, ◌≡◌, ◌⊎◌, Ghosts, writer}
 use Rattle.sled_log.specs.Contents as content
 use Rattle.sled_log.specs.Inside.HoldingLaws.{holds-counts}
 use Rattle.sled_log.specs.Messages.{message_size}
@@ -343,6 +343,6 @@ module _ {L : Type 0} (g : Ghosts L) {old mid : StickyLog L} (before : Went g ol
         unasked = refused.unasked;
       }
 
-  pub since : (new : StickyLog L) (accesses after : Accesses) (page : Page) (result : Result (Unit {0}) Refusal) → MovesOrNot g mid pid q new accesses after page result → MovesOrNot g old pid q new accesses after page result
+  pub since : (new : StickyLog L) (accesses after : Accesses) (page : Page) (result : Result (Unit {0}) Refusal) → MovesOrNot g (writer mid accesses) pid q (writer new after) page result → MovesOrNot g (writer old accesses) pid q (writer new after) page result
   since new accesses after page (Ok done) moved = moved-since moved
   since new accesses after page (Err refusal) refused = unmoved-since refused

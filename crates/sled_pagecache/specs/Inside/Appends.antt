@@ -20,6 +20,11 @@ use Rattle.sled_pagecache.specs.declared.pagecache.memory.accesses.Accesses.{Acc
 use Rattle.sled_pagecache.specs.declared.pagecache.table.page_entry.PageContent.{PageContent}
 use Rattle.sled_pagecache.specs.declared.pagecache.table.page_entry.Page.{Page}
 use Rattle.sled_pagecache.specs.declared.pagecache.write.sticky_log.StickyLog.{StickyLog}
+use Rattle.sled_pagecache.specs.declared.pagecache.write.writer.Writer.{Writer}
+
+-- what a change of a page is written with
+abbrev pub writer : {L : Type 0} → StickyLog L → Accesses → Writer L
+writer sticky_log accesses = record { sticky_log = sticky_log; accesses = accesses }
 
 module _ {L : Type 0} (g : Ghosts L) (pid : ℕ) (update : Update) (old new : StickyLog L) (accesses then : Accesses) where
   -- The update was appended. The page was accessed, is at such a stamp, and is made by this message only; the other pages stay.
@@ -54,12 +59,11 @@ module _ {L : Type 0} (g : Ghosts L) (pid : ℕ) (update : Update) (old new : St
     pub unasked : g.tells → IsOfLog refusal ⊎ (then ≡ accesses)
 
 -- the content of a page was replaced, or that failed and the page stays
-module _ {L : Type 0} (g : Ghosts L) (pid : ℕ) (kept : PageContent) (old new : StickyLog L) (accesses then : Accesses) (page page_then : Page) where
+module _ {L : Type 0} (g : Ghosts L) (pid : ℕ) (kept : PageContent) (old new : Writer L) (page page_then : Page) where
   abbrev pub Puts : Result (Unit {0}) Refusal → Type 0
-  Puts (Ok done) = MakesAppend g pid (Put (content_of kept)) old new accesses then page page_then kept
-  Puts (Err refusal) = RefusesAppend g pid (Put (content_of kept)) old new accesses then (RefusesSwap page.stamp) (page_then ≡ page) refusal
+  Puts (Ok done) = MakesAppend g pid (Put (content_of kept)) old.sticky_log new.sticky_log old.accesses new.accesses page page_then kept
+  Puts (Err refusal) = RefusesAppend g pid (Put (content_of kept)) old.sticky_log new.sticky_log old.accesses new.accesses (RefusesSwap page.stamp) (page_then ≡ page) refusal
 
--- a node was put on a new page, or that failed and the pages stay
 module _ {L : Type 0} (g : Ghosts L) (node : WholeNode) (old new : StickyLog L) (accesses then : Accesses) (pages pages_then : List Page) where
   -- The node was appended. The new page was accessed, and was added after the others, which stay.
   pub record MakesNewPage : Type 0 where
@@ -73,6 +77,8 @@ module _ {L : Type 0} (g : Ghosts L) (node : WholeNode) (old new : StickyLog L) 
     pub room : length pages ≢ most_pages
     pub accessed : IfSome (slice_get pages_then (length pages)) (λ page. WasAccessed accesses (length pages) (access_size page) then)
 
+-- a node was put on a new page, or that failed and the pages stay
+module _ {L : Type 0} (g : Ghosts L) (node : WholeNode) (old new : Writer L) (pages pages_then : List Page) where
   abbrev pub PutsOnNewPage : Result (Unit {0}) Refusal → Type 0
-  PutsOnNewPage (Ok done) = MakesNewPage
-  PutsOnNewPage (Err refusal) = RefusesAppend g (length pages) (Put (Node node)) old new accesses then (RefusesPage (length pages)) (pages_then ≡ pages) refusal
+  PutsOnNewPage (Ok done) = MakesNewPage g node old.sticky_log new.sticky_log old.accesses new.accesses pages pages_then
+  PutsOnNewPage (Err refusal) = RefusesAppend g (length pages) (Put (Node node)) old.sticky_log new.sticky_log old.accesses new.accesses (RefusesPage (length pages)) (pages_then ≡ pages) refusal

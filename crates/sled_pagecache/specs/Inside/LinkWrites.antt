@@ -33,6 +33,7 @@ use Rattle.sled_pagecache.specs.declared.pagecache.write.sticky_log.StickyLog.{S
 use Rattle.sled_pagecache.specs.declared.pagecache.table.page_entry.PageContent.{PageContent}
 use Rattle.sled_pagecache.specs.declared.pagecache.table.page_entry.PageContent.TheVariants as page_content
 use Rattle.sled_pagecache.specs.declared.pagecache.table.page_entry.Page.{Page}
+use Rattle.sled_pagecache.specs.declared.pagecache.write.writer.Writer.{Writer}
 
 -- the content is a node that accepts the link
 abbrev pub AcceptsAt : PageContent → NodeLink → Type 0
@@ -42,7 +43,6 @@ AcceptsAt page_content.OnLog link = ⊥
 AcceptsAt (page_content.Counter n) link = ⊥
 AcceptsAt (page_content.Roots roots) link = ⊥
 
--- a link was applied to the node of a page in memory, or that failed
 module _ {L : Type 0} (g : Ghosts L) (old : StickyLog L) (pid : ℕ) (page : Page) (link : NodeLink) (new : StickyLog L) (accesses then : Accesses) (page_then : Page) where
   -- what is written for it
   abbrev pub written_update : Update
@@ -81,10 +81,11 @@ module _ {L : Type 0} (g : Ghosts L) (old : StickyLog L) (pid : ℕ) (page : Pag
     pub lost : (page_then.kept ≡ page.kept) ⊎ (page_then.kept ≡ page_content.OnLog)
     pub unasked : g.tells → IsOfLog refusal ⊎ ((page_then.kept ≡ page.kept) × (then ≡ accesses))
 
-  -- the result is whether the link joined the messages of its page
+-- a link was applied to the node of a page in memory, or that failed; the result is whether the link joined the messages of its page
+module _ {L : Type 0} (g : Ghosts L) (old : Writer L) (pid : ℕ) (page : Page) (link : NodeLink) (new : Writer L) (page_then : Page) where
   abbrev pub LinksPage : Result Bool Refusal → Type 0
-  LinksPage (Ok joins) = AppliesLink joins
-  LinksPage (Err refusal) = RefusesToApply refusal
+  LinksPage (Ok joins) = AppliesLink g old.sticky_log pid page link new.sticky_log old.accesses new.accesses page_then joins
+  LinksPage (Err refusal) = RefusesToApply g old.sticky_log pid page link new.sticky_log old.accesses new.accesses page_then refusal
 
 -- why a link failed of which nothing was appended to the log
 abbrev pub RefusesUnappended : Chain → ℕ → NodeLink → Refusal → Type 0
@@ -169,6 +170,8 @@ module _ {L : Type 0} (g : Ghosts L) (old : StickyLog L) (pid : ℕ) (page : Pag
     pub lost : (page_then.kept ≡ page.kept) ⊎ (page_then.kept ≡ page_content.OnLog)
     pub unasked : g.tells → IsOfLog refusal ⊎ ((page_then.kept ≡ page.kept) × (then ≡ accesses))
 
+-- a link was put on a page, or that failed; the result is whether it joined the messages of its page
+module _ {L : Type 0} (g : Ghosts L) (old : Writer L) (pid : ℕ) (page : Page) (link : NodeLink) (new : Writer L) (page_then : Page) where
   abbrev pub PutsLink : Result Bool Refusal → Type 0
-  PutsLink (Ok joins) = MakesLink joins
-  PutsLink (Err refusal) = RefusesLinkOf refusal
+  PutsLink (Ok joins) = MakesLink g old.sticky_log pid page link new.sticky_log old.accesses new.accesses page_then joins
+  PutsLink (Err refusal) = RefusesLinkOf g old.sticky_log pid page link new.sticky_log old.accesses new.accesses page_then refusal

@@ -32,6 +32,7 @@ use Rattle.sled_pagecache.specs.declared.pagecache.table.page_entry.CacheInfo.{C
 use Rattle.sled_pagecache.specs.declared.pagecache.table.page_entry.PageContent.TheVariants.{OnLog, Node}
 use Rattle.sled_pagecache.specs.declared.pagecache.table.page_entry.Page.{Page}
 use Rattle.sled_pagecache.specs.declared.pagecache.write.sticky_log.StickyLog.{StickyLog}
+use Rattle.sled_pagecache.specs.declared.pagecache.write.writer.Writer.{Writer}
 
 -- the pointers to the messages of a page, as the page stores them
 abbrev pub pointers_in : List CacheInfo → List DiskPtr
@@ -54,10 +55,10 @@ abbrev pub reads_of : Page → ℕ
 reads_of page = if is_resident page.kept || is_one_blob (pointers_in page.infos.items) then 0 else length page.infos.items
 
 -- what is in memory of a page was written again, or that failed and the page stays
-module _ {L : Type 0} (g : Ghosts L) (pid : ℕ) (old new : StickyLog L) (accesses after : Accesses) (page page_then : Page) where
+module _ {L : Type 0} (g : Ghosts L) (pid : ℕ) (old new : Writer L) (page page_then : Page) where
   abbrev pub PutsAgain : Result (Unit {0}) Refusal → Type 0
-  PutsAgain (Ok done) = Appended g pid (Put (content_of page.kept)) old new accesses after page_then page.kept (page_then.stamp ≡ page.stamp)
-  PutsAgain (Err refusal) = RefusesAppend g pid (Put (content_of page.kept)) old new accesses after IsOfLog (page_then ≡ page) refusal
+  PutsAgain (Ok done) = Appended g pid (Put (content_of page.kept)) old.sticky_log new.sticky_log old.accesses new.accesses page_then page.kept (page_then.stamp ≡ page.stamp)
+  PutsAgain (Err refusal) = RefusesAppend g pid (Put (content_of page.kept)) old.sticky_log new.sticky_log old.accesses new.accesses IsOfLog (page_then ≡ page) refusal
 
 -- why a page wasn't moved: the log refused it, or the page isn't in memory, isn't one blob, and couldn't be read
 abbrev pub RefusesRewrite : Chain → Page → Refusal → Type 0
@@ -105,6 +106,8 @@ module _ {L : Type 0} (g : Ghosts L) (old : StickyLog L) (pid : ℕ) (page : Pag
     pub touched : IsTouched accesses pid after
     pub unasked : g.tells → IsOfLog refusal ⊎ (after ≡ accesses)
 
+-- a page was written again, or that failed
+module _ {L : Type 0} (g : Ghosts L) (old : Writer L) (pid : ℕ) (page : Page) (new : Writer L) (page_then : Page) where
   abbrev pub MovesOrNot : Result (Unit {0}) Refusal → Type 0
-  MovesOrNot (Ok done) = MovesOne
-  MovesOrNot (Err refusal) = RefusesOne refusal
+  MovesOrNot (Ok done) = MovesOne g old.sticky_log pid page new.sticky_log old.accesses new.accesses page_then
+  MovesOrNot (Err refusal) = RefusesOne g old.sticky_log pid page new.sticky_log old.accesses new.accesses page_then refusal

@@ -14,12 +14,11 @@ use Rattle.sled_node.specs.Meta.{IsTooLong, LacksRoom, CanChange, root_of}
 use Rattle.sled_pagecache.specs.Inside.PageEntry.{WasAccessed, IsTouched, capped_size}
 use Rattle.sled_pagecache.specs.Limits.{meta_pid}
 use Rattle.sled_pagecache.specs.Inside.PageWrites.{WritesMessage}
-use Rattle.sled_pagecache.specs.declared.pagecache.memory.accesses.Accesses.{Accesses}
 use Rattle.sled_pagecache.specs.declared.pagecache.table.page_entry.CacheInfo.{CacheInfo}
 use Rattle.sled_pagecache.specs.declared.pagecache.table.page_entry.PageContent.TheVariants.{Roots}
 use Rattle.sled_pagecache.specs.declared.pagecache.table.page_entry.Page.{Page}
-use Rattle.sled_pagecache.specs.declared.pagecache.write.sticky_log.StickyLog.{StickyLog}
 use Rattle.sled_pagecache.specs.declared.pagecache.handles.view.MetaView.{MetaView}
+use Rattle.sled_pagecache.specs.declared.pagecache.write.writer.Writer.{Writer}
 
 -- the page at id 0 holds named roots
 pub record KeepsRoots (pages : List Page) : Type 0 where
@@ -49,7 +48,7 @@ JudgesRoot roots name old new (Err refusal) =
     × ((IsTooLong name new × (refusal ≡ Unsupported NameTooLong)) ⊎ (LacksRoom name new roots × (refusal ≡ Unsupported TooManyNames)))
 
 -- The page of the named roots was accessed, and a message with this payload was written.
-pub record WritesMap {L : Type 0} (g : Ghosts L) (old new : StickyLog L) (accesses then : Accesses) (payload : List ℕ) (stamp : ℕ) (result : Result CacheInfo Refusal) : Type 0 where
-  pub writes : WritesMessage g old new meta_pid (message InlineMeta payload) stamp result
-  pub accessed : OnOk result (WasAccessed accesses meta_pid (capped_size (head_size + length payload)) then)
-  pub touched : OnErr result (IsTouched accesses meta_pid then)
+pub record WritesMap {L : Type 0} (g : Ghosts L) (old new : Writer L) (payload : List ℕ) (stamp : ℕ) (result : Result CacheInfo Refusal) : Type 0 where
+  pub writes : WritesMessage g old.sticky_log new.sticky_log meta_pid (message InlineMeta payload) stamp result
+  pub accessed : OnOk result (WasAccessed old.accesses meta_pid (capped_size (head_size + length payload)) new.accesses)
+  pub touched : OnErr result (IsTouched old.accesses meta_pid new.accesses)

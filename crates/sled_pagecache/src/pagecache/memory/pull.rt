@@ -91,8 +91,7 @@ pub(crate) fn pull_and_link<L: Log>(
     requires kept { L.tells → IsKept (chain_at (L.state writer.old.sticky_log.log) pid) page.old }
     requires full { is_free page.old.kept ≡ false }
     requires own { IsFreeOrNode page.old.kept }
-    ensures { PutsLink L.Log writer.old.sticky_log pid page.old link.now writer.new.sticky_log writer.old.accesses
-        writer.new.accesses page.new result }
+    ensures { PutsLink L.Log writer.old pid page.old link.now writer.new page.new result }
 {
     let was_away = matches!(page.kept, PageContent::OnLog);
     pull(&mut writer.sticky_log, pid, page)?;

@@ -59,8 +59,7 @@ pub(crate) fn put_counter<L: Log>(
     requires closed { is_open (L.state writer.old.sticky_log.log).pending ≡ false }
     requires there { L.tells
         → counter_pid < length (now effect_of_entry (L.state writer.old.sticky_log.log)) }
-    ensures put { Puts L.Log counter_pid (page_content.Counter n) writer.old.sticky_log writer.new.sticky_log
-        writer.old.accesses writer.new.accesses page.old page.new result }
+    ensures put { Puts L.Log counter_pid (page_content.Counter n) writer.old writer.new page.old page.new result }
     ensures stable { OnOk result ((L.state writer.new.sticky_log.log).pending ≡ []) }
 {
     let payload = n.serialized_size();

@@ -27,7 +27,7 @@ pub(crate) fn add_page<L: Log>(
     requires ready { IsReady L.Log writer.old.sticky_log }
     requires there { L.tells
         → length pages.old.pages ≡ length (now effect_of_entry (L.state writer.old.sticky_log.log)) }
-    ensures { PutsOnNewPage L.Log node writer.old.sticky_log writer.new.sticky_log writer.old.accesses writer.new.accesses
+    ensures { PutsOnNewPage L.Log node writer.old writer.new
         pages.old.pages pages.new.pages result }
 {
     // Every node is well-formed.

@@ -35,8 +35,7 @@ pub(crate) fn link_page<L: Log>(
     requires ready { IsReady L.Log writer.old.sticky_log }
     requires there { L.tells → pid < length (now effect_of_entry (L.state writer.old.sticky_log.log)) }
     requires kept { L.tells → IsKept (chain_at (L.state writer.old.sticky_log.log) pid) page.old }
-    ensures { LinksPage L.Log writer.old.sticky_log pid page.old link.now writer.new.sticky_log writer.old.accesses
-        writer.new.accesses page.new result }
+    ensures { LinksPage L.Log writer.old pid page.old link.now writer.new page.new result }
 {
     let PageContent::Node(node) = &page.kept else {
         return Err(Refusal::Corruption(None));
@@ -83,8 +82,7 @@ fn join_link<L: Log>(
     requires ready { IsReady L.Log writer.old.sticky_log }
     requires there { L.tells → pid < length (now effect_of_entry (L.state writer.old.sticky_log.log)) }
     requires kept { L.tells → IsKept (chain_at (L.state writer.old.sticky_log.log) pid) page.old }
-    ensures { LinksPage L.Log writer.old.sticky_log pid page.old link.now writer.new.sticky_log writer.old.accesses
-        writer.new.accesses page.new result }
+    ensures { LinksPage L.Log writer.old pid page.old link.now writer.new page.new result }
 {
     let PageContent::Node(node) = &mut page.kept else {
         unreachable!();
@@ -126,8 +124,7 @@ fn put_linked<L: Log>(
     requires ready { IsReady L.Log writer.old.sticky_log }
     requires there { L.tells → pid < length (now effect_of_entry (L.state writer.old.sticky_log.log)) }
     requires kept { L.tells → IsKept (chain_at (L.state writer.old.sticky_log.log) pid) page.old }
-    ensures { LinksPage L.Log writer.old.sticky_log pid page.old link.now writer.new.sticky_log writer.old.accesses
-        writer.new.accesses page.new result }
+    ensures { LinksPage L.Log writer.old pid page.old link.now writer.new page.new result }
 {
     let PageContent::Node(node) = &mut page.kept else {
         unreachable!();

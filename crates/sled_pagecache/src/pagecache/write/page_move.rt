@@ -57,8 +57,7 @@ pub(crate) fn move_page<L: Log>(
     requires chain { L.tells
         → is_chain effect_of_entry (chain_at (L.state writer.old.sticky_log.log) pid) ≡ true }
     requires sized { L.tells → IsSized (chain_at (L.state writer.old.sticky_log.log) pid) }
-    ensures { MovesOrNot L.Log writer.old.sticky_log pid page.old writer.new.sticky_log writer.old.accesses writer.new.accesses
-        page.new result }
+    ensures { MovesOrNot L.Log writer.old pid page.old writer.new page.new result }
 {
     match blob_of(page) {
         Some(blob) => move_blob(writer, pid, page, blob),
@@ -96,8 +95,7 @@ fn move_blob<L: Log>(
         → is_chain effect_of_entry (chain_at (L.state writer.old.sticky_log.log) pid) ≡ true }
     requires sized { L.tells → IsSized (chain_at (L.state writer.old.sticky_log.log) pid) }
     requires blob { IsBlobOf page.old blob }
-    ensures { MovesOrNot L.Log writer.old.sticky_log pid page.old writer.new.sticky_log writer.old.accesses writer.new.accesses
-        page.new result }
+    ensures { MovesOrNot L.Log writer.old pid page.old writer.new page.new result }
 {
     let log_size = page.first_info().log_size;
     let Ok(()) = writer.accesses.access(pid, log_size) else {
@@ -125,8 +123,7 @@ fn pull_and_rewrite<L: Log>(
     requires kept { L.tells → IsKept (chain_at (L.state writer.old.sticky_log.log) pid) page.old }
     requires no_blob { is_free page.old.kept ≡ false
         → is_one_blob (pointers_in page.old.infos.items) ≡ false }
-    ensures { MovesOrNot L.Log writer.old.sticky_log pid page.old writer.new.sticky_log writer.old.accesses writer.new.accesses
-        page.new result }
+    ensures { MovesOrNot L.Log writer.old pid page.old writer.new page.new result }
 {
     let was_away = matches!(page.kept, PageContent::OnLog);
     pull(&mut writer.sticky_log, pid, page)?;
@@ -146,8 +143,7 @@ fn rewrite<L: Log>(writer: &mut Writer<L>, pid: PageId, page: &mut Page) -> Resu
     requires held { is_resident page.old.kept ≡ true }
     requires ready { IsReady L.Log writer.old.sticky_log }
     requires there { L.tells → pid < length (now effect_of_entry (L.state writer.old.sticky_log.log)) }
-    ensures { PutsAgain L.Log pid writer.old.sticky_log writer.new.sticky_log writer.old.accesses writer.new.accesses page.old
-        page.new result }
+    ensures { PutsAgain L.Log pid writer.old writer.new page.old page.new result }
 {
     know_limits(&page.kept);
     let size = payload_size(&page.kept);

@@ -34,8 +34,7 @@ pub(crate) fn put_page<L: Log>(
     requires can_put { CanPut kept }
     requires ready { IsReady L.Log writer.old.sticky_log }
     requires there { L.tells → pid < length (now effect_of_entry (L.state writer.old.sticky_log.log)) }
-    ensures { Puts L.Log pid kept writer.old.sticky_log writer.new.sticky_log writer.old.accesses writer.new.accesses
-        page.old page.new result }
+    ensures { Puts L.Log pid kept writer.old writer.new page.old page.new result }
 {
     let payload = payload_size(&kept);
     if page.stamp == u64::MAX {
@@ -59,8 +58,7 @@ pub(crate) fn put_node<L: Log>(
 ) -> Result<(), Refusal>
     requires ready { IsReady L.Log writer.old.sticky_log }
     requires there { L.tells → pid < length (now effect_of_entry (L.state writer.old.sticky_log.log)) }
-    ensures { Puts L.Log pid (page_content.Node node) writer.old.sticky_log writer.new.sticky_log writer.old.accesses
-        writer.new.accesses page.old page.new result }
+    ensures { Puts L.Log pid (page_content.Node node) writer.old writer.new page.old page.new result }
 {
     // Every node is well-formed.
     let _ = node.data();
@@ -85,8 +83,7 @@ pub(crate) fn free_page<L: Log>(
     requires there { L.tells → pid < length (now effect_of_entry (L.state writer.old.sticky_log.log)) }
     ensures freed { OnOk result (free.new.ids.keys ≡ insert_key nat_cmp free.old.ids.keys pid) }
     ensures unfreed { OnErr result (free.new.ids.keys ≡ free.old.ids.keys) }
-    ensures put { Puts L.Log pid page_content.Free writer.old.sticky_log writer.new.sticky_log writer.old.accesses writer.new.accesses
-        page.old page.new result }
+    ensures put { Puts L.Log pid page_content.Free writer.old writer.new page.old page.new result }
 {
     if page.stamp == u64::MAX {
         return Err(Refusal::Unsupported(Why::StampUsedUp));
@@ -114,8 +111,7 @@ pub(crate) fn reuse_page<L: Log>(
     ensures taken { OnOk result
         (free.new.ids.keys ≡ take (length free.old.ids.keys - 1) free.old.ids.keys) }
     ensures untaken { OnErr result (free.new.ids.keys ≡ free.old.ids.keys) }
-    ensures put { Puts L.Log pid (page_content.Node node) writer.old.sticky_log writer.new.sticky_log writer.old.accesses
-        writer.new.accesses page.old page.new result }
+    ensures put { Puts L.Log pid (page_content.Node node) writer.old writer.new page.old page.new result }
 {
     let put = put_node(writer, pid, page, node);
     if put.is_ok() {

@@ -98,7 +98,7 @@ pub(crate) fn swap_root<L: Log>(
         → meta_pid < length (now effect_of_entry (L.state writer.old.sticky_log.log)) }
     ensures { Puts L.Log meta_pid
         (page_content.Roots (changed_roots name.now root (roots_in page.old.kept)))
-        writer.old.sticky_log writer.new.sticky_log writer.old.accesses writer.new.accesses page.old page.new result }
+        writer.old writer.new page.old page.new result }
 {
     let PageContent::Roots(held) = &mut page.kept else {
         unreachable!()
@@ -127,7 +127,7 @@ fn put_changed<L: Log>(
     requires ready { IsReady L.Log writer.old.sticky_log }
     requires there { L.tells
         → meta_pid < length (now effect_of_entry (L.state writer.old.sticky_log.log)) }
-    ensures put { WritesMap L.Log writer.old.sticky_log writer.new.sticky_log writer.old.accesses writer.new.accesses
+    ensures put { WritesMap L.Log writer.old writer.new
         (written_roots (changed_roots name.now root roots.old)) stamp result }
     ensures changed { OnOk result (roots.new ≡ changed_roots name.now root roots.old) }
     ensures left { OnErr result (roots.new ≡ roots.old) }
@@ -148,7 +148,7 @@ fn put_without<L: Log>(
     requires ready { IsReady L.Log writer.old.sticky_log }
     requires there { L.tells
         → meta_pid < length (now effect_of_entry (L.state writer.old.sticky_log.log)) }
-    ensures put { WritesMap L.Log writer.old.sticky_log writer.new.sticky_log writer.old.accesses writer.new.accesses
+    ensures put { WritesMap L.Log writer.old writer.new
         (written_roots (changed_roots name.now None roots.old)) stamp result }
     ensures changed { OnOk result (roots.new ≡ changed_roots name.now None roots.old) }
     ensures left { OnErr result (roots.new ≡ roots.old) }
@@ -176,7 +176,7 @@ fn put_with<L: Log>(
     requires ready { IsReady L.Log writer.old.sticky_log }
     requires there { L.tells
         → meta_pid < length (now effect_of_entry (L.state writer.old.sticky_log.log)) }
-    ensures put { WritesMap L.Log writer.old.sticky_log writer.new.sticky_log writer.old.accesses writer.new.accesses
+    ensures put { WritesMap L.Log writer.old writer.new
         (written_roots (changed_roots name.now (Some root) roots.old)) stamp result }
     ensures changed { OnOk result (roots.new ≡ changed_roots name.now (Some root) roots.old) }
     ensures left { OnErr result (roots.new ≡ roots.old) }
@@ -208,8 +208,7 @@ fn put_map<L: Log>(writer: &mut Writer<L>, roots: &Meta, stamp: u64) -> Result<C
     requires ready { IsReady L.Log writer.old.sticky_log }
     requires there { L.tells
         → meta_pid < length (now effect_of_entry (L.state writer.old.sticky_log.log)) }
-    ensures { WritesMap L.Log writer.old.sticky_log writer.new.sticky_log writer.old.accesses writer.new.accesses
-        (written_roots roots.now) stamp result }
+    ensures { WritesMap L.Log writer.old writer.new (written_roots roots.now) stamp result }
 {
     let Ok(payload) = roots.serialize(writer.sticky_log.alloc) else {
         return Err(Refusal::OutOfMemory);
@@ -226,8 +225,7 @@ fn put_payload<L: Log>(
     requires ready { IsReady L.Log writer.old.sticky_log }
     requires there { L.tells
         → meta_pid < length (now effect_of_entry (L.state writer.old.sticky_log.log)) }
-    ensures { WritesMap L.Log writer.old.sticky_log writer.new.sticky_log writer.old.accesses writer.new.accesses payload.now
-        stamp result }
+    ensures { WritesMap L.Log writer.old writer.new payload.now stamp result }
 {
     let Ok(()) = writer
         .accesses

@@ -6,4 +6,4 @@ pub returns-in_default-clause-put : goal.returns-in_default-clause-put
 returns-in_default-clause-put g c = writes-no-map g.L.Log c.requires.ready.clear c.requires.ready.usable (g.met.L.Log.only_now c.args.writer.now.sticky_log.log)
 
 pub returns-clause-put : goal.returns-clause-put
-returns-clause-put g c = subst (λ (payload : List ℕ). WritesMap g.L.Log c.args.writer.now.sticky_log c.put_payload-written.new.writer.sticky_log c.args.writer.now.accesses c.put_payload-written.new.writer.accesses payload c.args.stamp c.put_payload-written.result) (c.deref.ensures.value ∙ c.in-Ok.ensures) c.put_payload-written.ensures
+returns-clause-put g c = subst (λ (payload : List ℕ). WritesMap g.L.Log c.args.writer.now c.put_payload-written.new.writer payload c.args.stamp c.put_payload-written.result) (c.deref.ensures.value ∙ c.in-Ok.ensures) c.put_payload-written.ensures
