@@ -279,16 +279,7 @@ impl Node {
     pub fn accepts_set(&self, key: &IVec, value: &IVec) -> bool
         ensures { IsTrue result ↔ AcceptsHere self.now (Set key.now value.now) }
     {
-        let stored = key.as_slice();
-        match &self.contents {
-            Data::Leaf(leaf) => {
-                self.spans(stored)
-                    && self.is_short(stored)
-                    && value.len() <= MAX_BYTES
-                    && leaf.has_room(stored)
-            }
-            Data::Index(_) => false,
-        }
+        self.has_place_for(key.as_slice(), value.as_slice())
     }
 
     /// Maps a stored key to a value, and overwrites the present value if there is one.

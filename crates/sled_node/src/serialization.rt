@@ -5,4 +5,5 @@ pub(crate) mod pairs;
 pub(crate) mod short;
 pub(crate) mod strings;
 
+pub use links::split_set;
 pub use sled_base::serialization::{ConsumeSequence, Serialize};

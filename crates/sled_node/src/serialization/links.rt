@@ -1,14 +1,16 @@
 //! The encoding of links.
 
-ghost use Rattle.std.specs.Prelude.{◌≡◌, IfOk, IfErr, OnErr};
+ghost use Rattle.std.specs.Prelude.{◌≡◌, [], IfSome, IfNone, IfOk, IfErr, OnErr};
 ghost use Rattle.sled_base.specs.Payloads.Reading.{IsRefusal, ReadsPair, AsksPair};
 ghost use Rattle.sled_base.specs.Payloads.ReadingLaws.{some_taken};
 ghost use Rattle.sled_node.specs.Payloads.ShortStrings.{ReadsShort, AsksShort};
 ghost use Rattle.sled_node.specs.Payloads.Links.{ReadsLink, AsksLink, written_link, CanWriteLink};
 ghost use Rattle.sled_node.specs.Payloads.LinkLaws.{Link-grammar};
+ghost use Rattle.sled_node.specs.declared.node.link.Link.TheVariants.{Set};
+ghost use Rattle.sled_base.specs.Order.{Bytes};
 
 use super::Serialize;
-use super::short::read_short;
+use super::short::{read_short, split_short};
 use crate::node::Link;
 use sled_base::serialization::tuples::write_both;
 use sled_base::{Error, IVec};
@@ -98,4 +100,22 @@ fn read_two(alloc: Global, input: &mut &[u8]) -> Result<(IVec, IVec), Error>
     let value = read_short(alloc, &mut rest)?;
     *input = rest;
     Ok((key, value))
+}
+
+/// Returns the key and the value of a payload that is a [`Link::Set`] and nothing more, where they lie in the payload, or else None.
+///
+/// It allocates nothing.
+pub fn split_set(payload: &[u8]) -> Option<(&[u8], &[u8])>
+    ensures found { IfSome result (λ pair. ReadsLink payload.now (Set pair.0.now pair.1.now) []) }
+    ensures nothing { IfNone result ((key value : Bytes) → ReadsLink payload.now (Set key value) [] → ⊥) }
+{
+    let [0, pair @ ..] = payload else {
+        return None;
+    };
+    let (key, behind) = split_short(pair)?;
+    let (value, rest) = split_short(behind)?;
+    if !rest.is_empty() {
+        return None;
+    }
+    Some((key, value))
 }

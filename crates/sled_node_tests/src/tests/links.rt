@@ -1,6 +1,7 @@
 // Links, and the edits of a leaf that a merging node takes too.
 
 use super::*;
+use sled_node::serialization::split_set;
 
 // ---- links, as payloads
 
@@ -97,6 +98,18 @@ pub(super) fn applies_payload(alloc: Global, node: &mut Node, payload: &[u8]) ->
     }
 }
 
+// The same of the pair of a payload that sets one, where it lies.
+fn sets_payload(node: &mut Node, payload: &[u8]) -> Option<bool> {
+    let (key, value) = split_set(payload)?;
+    if !node.accepts_pair(key, value) {
+        return Some(false);
+    }
+    match node.set_pair(key, value) {
+        Ok(()) => Some(true),
+        Err(_) => None,
+    }
+}
+
 fn edits_payload(alloc: Global, node: &mut Node, payload: &[u8]) -> Option<bool> {
     match link_of(alloc, payload) {
         Some(link) => edits(node, link).ok(),
@@ -104,18 +117,20 @@ fn edits_payload(alloc: Global, node: &mut Node, payload: &[u8]) -> Option<bool>
     }
 }
 
+// How a link is made: as it is, as an edit of a leaf, or by its pair.
+#[derive(Clone, Copy)]
+enum Way {
+    Link,
+    Edit,
+    Pair,
+}
+
 // Whether the node accepts the link, and is then the node of the other payload, or doesn't accept it where there is no other.
-fn changes(
-    alloc: Global,
-    node: &mut Node,
-    is_edit: bool,
-    link: &[u8],
-    after: Option<&[u8]>,
-) -> bool {
-    let accepts = if is_edit {
-        edits_payload(alloc, node, link)
-    } else {
-        applies_payload(alloc, node, link)
+fn changes(alloc: Global, node: &mut Node, way: Way, link: &[u8], after: Option<&[u8]>) -> bool {
+    let accepts = match way {
+        Way::Link => applies_payload(alloc, node, link),
+        Way::Edit => edits_payload(alloc, node, link),
+        Way::Pair => sets_payload(node, link),
     };
     match after {
         Some(after) => accepts == Some(true) && is_read(alloc, after, node),
@@ -123,9 +138,9 @@ fn changes(
     }
 }
 
-fn takes(alloc: Global, is_edit: bool, before: &[u8], link: &[u8], after: Option<&[u8]>) -> bool {
+fn takes(alloc: Global, way: Way, before: &[u8], link: &[u8], after: Option<&[u8]>) -> bool {
     match node_of(alloc, before) {
-        Some(mut node) => changes(alloc, &mut node, is_edit, link, after),
+        Some(mut node) => changes(alloc, &mut node, way, link, after),
         None => false,
     }
 }
@@ -226,11 +241,45 @@ const EDITS: &[Row] = &[
 
 #[test]
 fn links_are_applied_and_leaves_edited(rt: HostRuntime) {
-    for (is_edit, rows) in [(false, LINKS), (true, EDITS)] {
+    for (way, rows) in [(Way::Link, LINKS), (Way::Edit, EDITS)] {
         for (row, before, link, after) in rows {
-            let is_so = takes(rt.alloc(), is_edit, before, link, *after);
+            let is_so = takes(rt.alloc(), way, before, link, *after);
             assert!(rt; is_so, "{row}");
         }
+    }
+}
+
+#[test]
+fn pairs_are_set_as_links_are(rt: HostRuntime) {
+    for (row, before, link, after) in LINKS {
+        let is_set = link.first() == Some(&0);
+        let is_so = !is_set || takes(rt.alloc(), Way::Pair, before, link, *after);
+        assert!(rt; split_set(link).is_some() == is_set && is_so, "{row}");
+    }
+}
+
+// Parts of a link that sets a pair, one with a byte behind it, others with a forged length, and other links.
+const NO_SETS: &[&[u8]] = &[
+    &[],
+    &[0],
+    &[0, 1],
+    &[0, 1, 98],
+    &[0, 1, 98, 1],
+    &[0, 1, 98, 1, 118, 0],
+    &[0, 250, 255, 255, 255, 1, 1],
+    &[0, 0, 255, 0, 0, 0, 0, 0, 0, 0, 1],
+    DEL_B,
+    MERGE_5,
+    CONFIRM,
+    CAP,
+    &[5, 1, 98, 1, 118],
+];
+
+#[test]
+fn other_payloads_set_no_pair(rt: HostRuntime) {
+    assert!(rt; split_set(SET_KEY) == Some((b"key".as_slice(), b"value".as_slice())));
+    for payload in NO_SETS {
+        assert!(rt; split_set(payload).is_none(), "{payload:?}");
     }
 }
 
