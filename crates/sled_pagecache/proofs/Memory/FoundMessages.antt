@@ -1,5 +1,5 @@
 -- The messages of a page make one content, and each beginning of them makes a node.
-use Rattle.sled_pagecache.proofs.Names.{◌≡◌, ℕ, ◌+◌, ◌<◌, List, [], ◌∷◌, ◌++◌, length, map, take, drop, get_or, Some, refl, sym, ap, subst, ◌∙◌, arith, drop_more, length-append, length-map, append_assoc, ◌⊎◌, take-append-drop, map-append, DiskPtr, Refusal, Corruption, OutOfMemory, Content, Node, Entry, Chain, Message, Messages, messages_of, LeadTo, Makes, one_content, applied, WholeNode, MakesNode, IsFirstWrong, Leads, RefusesMessage, RefusesPull}
+use Rattle.sled_pagecache.proofs.Names.{◌≡◌, ℕ, ◌+◌, ◌<◌, List, [], ◌∷◌, ◌++◌, length, map, take, drop, get_or, Some, refl, sym, ap, subst, ◌∙◌, arith, drop_more, length-append, length-map, append_assoc, ◌⊎◌, take-append-drop, map-append, DiskPtr, Refusal, Corruption, OutOfMemory, Content, Node, Link, NodeLink, Accepts, IsUpdate, one_update, Entry, Chain, Message, Messages, messages_of, LeadTo, Makes, one_content, applied, WholeNode, MakesNode, IsFirstWrong, Leads, RefusesMessage, RefusesPull}
 
 -- ---- messages behind others
 
@@ -40,6 +40,12 @@ makes-front (x ∷ told) more after some h =
     (mid.0, (h.0, h.1, subst (LeadTo h.0 told) mid.1 r.1))
 
 -- ---- one message, refused
+
+-- a link that the node doesn't accept
+pub leads_nowhere : (before : WholeNode) (m : Message) (link : NodeLink) → IsUpdate m (Link link) → ¬ Accepts before link → (after : WholeNode) → ¬ Leads before m after
+leads_nowhere before m link is not after leads =
+    let same : Link leads.0 ≡ Link link = one_update m (Link leads.0) (Link link) leads.1 is in
+    not (subst (λ (l : NodeLink). Accepts before l) (let e : leads.0 ≡ link = cc in e) leads.2)
 
 pub refuses_so : (pointer : DiskPtr) (a b : Type 0) → (a → b) → (e : Refusal) → RefusesMessage pointer a e → RefusesMessage pointer b e
 refuses_so pointer a b f e h = grind arith

@@ -1,14 +1,16 @@
 //! The node of a page, from the messages that a log returns one after another.
 
-ghost use Rattle.std.specs.Prelude.{◌≡◌, [], IfOk, IfErr, OnOk, OnErr};
+ghost use Rattle.std.specs.Prelude.{◌≡◌, [], IfSome, IfOk, IfErr, OnOk, OnErr};
 ghost use Rattle.sled_log.specs.Contents as contents;
 ghost use Rattle.sled_log.specs.Reading.{IsUpdate};
 ghost use Rattle.sled_node.specs.Node.{WholeNode};
 ghost use Rattle.sled_node.specs.declared.node.link.Link.{Link as NodeLink};
+ghost use Rattle.sled_node.specs.declared.node.link.Link.TheVariants.{Set};
 ghost use Rattle.sled_pagecache.specs.Inside.PageIn.{found_message, EncodesNothing, Follows, Leads, RefusesFirst, RefusesMessage};
 
 use crate::pagecache::table::boxed_node::BoxedNode;
 use sled_base::{Bug, DiskPtr, Error, MessageKind, Refusal};
+use sled_node::serialization::split_set;
 use sled_node::{Link, Node, Serialize};
 use std::alloc::Global;
 
@@ -65,18 +67,37 @@ fn first_node(found: &Found<'_>, alloc: Global) -> Result<Node, Refusal>
     }
 }
 
-// Applies the link that a message is.
+// Applies the link that a message is. One that sets a pair is applied from the payload, so that neither key nor value is copied first.
 fn apply_link(node: &mut BoxedNode, found: &Found<'_>, alloc: Global) -> Result<(), Refusal>
     ensures applied { OnOk result (Leads node.old (found_message found.now) node.new) }
     ensures refused { IfErr result (RefusesMessage found.now.pointer ((after : WholeNode)
         → ¬ Leads node.old (found_message found.now) after)) }
     ensures err { OnErr result (node.new ≡ node.old) }
 {
-    let link = link_of(found, alloc)?;
-    if !node.accepts(alloc, &link) {
-        return Err(Refusal::Corruption(Some(found.pointer)));
+    if let Some((key, value)) = pair_of(found) {
+        if !node.accepts_pair(alloc, key, value) {
+            return Err(Refusal::Corruption(Some(found.pointer)));
+        }
+        node.set_pair(alloc, key, value)
+            .map_err(|_| Refusal::OutOfMemory)
+    } else {
+        let link = link_of(found, alloc)?;
+        if !node.accepts(alloc, &link) {
+            return Err(Refusal::Corruption(Some(found.pointer)));
+        }
+        node.apply(alloc, &link).map_err(|_| Refusal::OutOfMemory)
     }
-    node.take(alloc, link).map_err(|_| Refusal::OutOfMemory)
+}
+
+// The pair that a message sets, where it lies in the payload, if the message is a link that sets one.
+fn pair_of<'a>(found: &Found<'a>) -> Option<(&'a [u8], &'a [u8])>
+    ensures { IfSome result (λ pair.
+        IsUpdate (found_message found.now) (contents.Link (Set pair.0.now pair.1.now))) }
+{
+    match found.kind {
+        MessageKind::InlineLink | MessageKind::BlobLink => split_set(found.payload),
+        _ => None,
+    }
 }
 
 // The link that a message is.

@@ -5,6 +5,7 @@ ghost use Rattle.sled_node.specs.Node.{IsWellFormed, empty_leaf};
 ghost use Rattle.sled_node.specs.Sizes.{node_size};
 ghost use Rattle.sled_node.specs.Links.{Accepts, applied};
 ghost use Rattle.sled_node.specs.Payloads.Nodes.{written_node};
+ghost use Rattle.sled_node.specs.declared.node.link.Link.TheVariants.{Set};
 
 use sled_base::Serialize;
 use sled_node::{Link, Node};
@@ -103,16 +104,34 @@ impl BoxedNode {
         }
     }
 
-    // Applies a link, of which it keeps the key and the value. A refusal leaves the node.
-    pub(crate) fn take(&mut self, alloc: Global, link: Link) -> Result<(), AllocError>
-        requires { Accepts self.old link }
-        ensures applied { OnOk result (self.new ≡ applied link self.old) }
+    // Whether a link that sets the pair may be applied.
+    pub(crate) fn accepts_pair(&self, alloc: Global, key: &[u8], value: &[u8]) -> bool
+        ensures { IsTrue result ↔ Accepts self.now (Set key.now value.now) }
+    {
+        match &self.node {
+            Some(node) => node.accepts_pair(key, value),
+            None => Node::default(alloc).accepts_pair(key, value),
+        }
+    }
+
+    // Sets a pair, as the link that sets it does. A refusal leaves the node.
+    pub(crate) fn set_pair(
+        &mut self,
+        alloc: Global,
+        key: &[u8],
+        value: &[u8],
+    ) -> Result<(), AllocError>
+        requires { Accepts self.old (Set key.now value.now) }
+        ensures applied { OnOk result (self.new ≡ applied (Set key.now value.now) self.old) }
         ensures err { OnErr result (self.new ≡ self.old) }
     {
-        let Some(node) = &mut self.node else {
-            return self.fill(alloc, &link);
-        };
-        take_link(node, link)
+        if let Some(node) = &mut self.node {
+            return node.set_pair(key, value);
+        }
+        let mut node = Box::new(alloc, Node::default(alloc))?;
+        node.set_pair(key, value)?;
+        self.node = Some(node);
+        Ok(())
     }
 
     // Applies a link. A refusal leaves the node.
@@ -190,16 +209,4 @@ fn empty_accepts(alloc: Global, link: &Link) -> bool
     ensures { IsTrue result ↔ Accepts empty_leaf link.now }
 {
     Node::default(alloc).accepts(link)
-}
-
-// Applies a link, of which the node keeps the key and the value. A refusal leaves the node.
-fn take_link(node: &mut Node, link: Link) -> Result<(), AllocError>
-    requires { Accepts node.old link }
-    ensures applied { OnOk result (node.new ≡ applied link node.old) }
-    ensures err { OnErr result (node.new ≡ node.old) }
-{
-    match link {
-        Link::Set(key, value) => node.set_leaf(key, value),
-        link => node.apply(&link),
-    }
 }
