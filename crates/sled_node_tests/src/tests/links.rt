@@ -99,7 +99,7 @@ pub(super) fn applies_payload(alloc: Global, node: &mut Node, payload: &[u8]) ->
 }
 
 // The same of the pair of a payload that sets one, where it lies.
-fn sets_payload(node: &mut Node, payload: &[u8]) -> Option<bool> {
+pub(super) fn sets_payload(node: &mut Node, payload: &[u8]) -> Option<bool> {
     let (key, value) = split_set(payload)?;
     if !node.accepts_pair(key, value) {
         return Some(false);

@@ -1,6 +1,7 @@
 // A leaf beside a plain list of its pairs: after each of many edits it answers as the list does.
 
 use super::corners::{deletes, sets};
+use super::links::sets_payload;
 use super::lookups::is_found;
 use super::neighbours::nearest;
 use super::parts::node_over;
@@ -227,6 +228,14 @@ fn payload_of(alloc: Global, leaf: &Node, list: &[Pair]) -> Result<Vec<u8>, Allo
     Ok(payload)
 }
 
+// A link that sets the pair.
+fn set_payload(alloc: Global, stored: &[u8], value: &[u8]) -> Result<Vec<u8>, AllocError> {
+    let mut payload = Vec::from_slice(alloc, &[0])?;
+    append_string(alloc, &mut payload, stored)?;
+    append_string(alloc, &mut payload, value)?;
+    Ok(payload)
+}
+
 fn is_written(alloc: Global, leaf: &Node, list: &[Pair]) -> bool {
     match payload_of(alloc, leaf, list) {
         Ok(payload) => is_read(alloc, &payload, leaf.data()) && writes(alloc, leaf, &payload),
@@ -259,7 +268,7 @@ fn picked(from: &[Bytes], state: &mut u64) -> Bytes {
     from.get(next(state, from.len())).copied().unwrap_or(&[])
 }
 
-// Whether the next edit, of which every fourth takes a key out, is made of both.
+// Whether the next edit, of which every fourth takes a key out and half of the others set a pair from a payload, is made of both.
 fn is_edited(
     alloc: Global,
     leaf: &mut Node,
@@ -276,7 +285,11 @@ fn is_edited(
     }
     let value = picked(VALUES, state);
     set_in(list, (key, value))?;
-    Ok(sets(alloc, leaf, stored, value))
+    if next(state, 2) == 0 {
+        return Ok(sets(alloc, leaf, stored, value));
+    }
+    let payload = set_payload(alloc, stored, value)?;
+    Ok(sets_payload(leaf, &payload) == Some(true))
 }
 
 // Whether the leaf answers as the list does after each edit.

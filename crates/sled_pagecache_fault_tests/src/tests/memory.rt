@@ -4,15 +4,19 @@
 use super::*;
 use sled_pagecache_testing::calls::{draws, names_and_stamp, replaces_by_pair};
 use sled_pagecache_testing::memory::{made, makes, new_cache, opens};
+use sled_pagecache_testing::steps::Change::Set;
 use sled_pagecache_testing::steps::Outcome::At;
-use sled_pagecache_testing::steps::Sight::{Absent, Pair};
+use sled_pagecache_testing::steps::Sight::{Absent, Pair, Pairs};
 use sled_pagecache_testing::steps::Step::{
     Adds, Frees, Gets, Links, ReplacesByPair, Takes, Writes,
 };
-use sled_pagecache_testing::steps::{Outcome, PAIR, Step, shows};
+use sled_pagecache_testing::steps::{Change, Outcome, PAIR, Step, shows};
+
+// A link that sets a value of more bytes than are kept in place.
+const LONG: Change = Set(b"c", &[7; 34]);
 
 // Two pages are added, and one is linked and the other replaced. The links take so many bytes of the log: nine links, the node of one
-// pair that the tenth makes, and a link.
+// pair that the tenth makes, and a link. A third page is an empty leaf and two links.
 const FILLED: &[Step] = &[
     Takes(35),
     Adds(2, 1),
@@ -32,17 +36,22 @@ const FILLED: &[Step] = &[
     Takes(85 + 9 * 22 + 29 + 22),
     ReplacesByPair(3, 1, At(2)),
     Takes(363),
-    Writes(328),
+    Adds(4, 1),
+    Links(4, 1, PAIR, At(2)),
+    Links(4, 2, LONG, At(3)),
+    Takes(465),
+    Writes(430),
 ];
 
-// Both stand again, and one is linked and the other freed.
+// All stand again, and one is linked and another one freed.
 const FOUND: &[Step] = &[
     Gets(2, Pair(0, b"b", b"v")),
     Gets(3, Pair(0, b"k", b"v")),
+    Gets(4, Pairs(0, &[(b"b", b"v"), (b"c", &[7; 34])])),
     Links(2, 0, PAIR, At(1)),
-    Takes(385),
+    Takes(487),
     Frees(3, 0, At(1)),
-    Takes(402),
+    Takes(504),
 ];
 
 // How many of these steps show what they should, in a new cache and in one that is opened again over its log.

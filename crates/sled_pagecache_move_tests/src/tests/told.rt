@@ -230,6 +230,19 @@ const SHORT_LEAF: Message = (MessageKind::BlobNode, &[0; 7]);
 
 const BLOB_SET: Message = (MessageKind::BlobLink, &[0, 1, 98, 1, 118]);
 
+const LONG_BLOB_SET: Message = (MessageKind::BlobLink, &[0, 1, 98, 1, 118, 0]);
+
+// The payload of that link, as a message that is none.
+const NO_LINK: Message = (MessageKind::Counter, &[0, 1, 98, 1, 118]);
+
+// It begins a merge of its node into another one, which then takes no link.
+const CAP: Message = (MessageKind::InlineLink, &[4]);
+
+// A leaf without pairs from "c" on, and an index without pairs.
+const LEAF_FROM_C: Message = (MessageKind::InlineNode, &[0, 0, 0, 0, 1, 99, 0, 0, 0]);
+
+const INDEX: Message = (MessageKind::InlineNode, &[0, 0, 0, 0, 0, 0, 1, 0]);
+
 // ---- a page of such messages, between the system pages and an empty leaf
 
 // What a get of page 2 answers: a leaf of the pair, the message that doesn't belong there, or that a free page was read.
@@ -257,6 +270,13 @@ pub(super) const PAGES: &[(&[Message], Answer)] = &[
     (&[LEAF, CONFIRM, SET, SET], Answer::Wrong(201)),
     (&[LEAF, SET, LONG_SET, CONFIRM], Answer::Wrong(202)),
     (&[LEAF, SET, SET, CONFIRM], Answer::Wrong(203)),
+    (&[LEAF, SET, BLOB_SET, SET], Answer::Pair),
+    (&[LEAF, LONG_BLOB_SET], Answer::Wrong(201)),
+    (&[LEAF, NO_LINK], Answer::Wrong(201)),
+    (&[LEAF, CAP, SET], Answer::Wrong(202)),
+    (&[LEAF_FROM_C, SET], Answer::Wrong(201)),
+    (&[INDEX, SET], Answer::Wrong(201)),
+    (&[LEAF, LONG_SET, SET], Answer::Wrong(201)),
 ];
 
 pub(super) type Told = PageCache<ToldLog>;
