@@ -122,47 +122,54 @@ module _ {E : Type 0} (root : ℕ) (key had : Bytes) (place : Place) (is_there :
 
 -- ---- the same of calls that were made
 
+-- an error has no answer, of which anything is so
+pub no-answer : {T E : Type 0} (Is : T → Type 0) (result : Result T E) → IsErr result → IfOk result Is
+no-answer Is (Ok answer) failed = absurd (false≢true failed)
+no-answer Is (Err e) failed = tt
+
 -- the kind of an error doesn't matter
-pub links-ok : {T E F : Type 0} (place : Place) (link : NodeLink) (answer : T) (s t : State) (events : List (Event Update)) → LinksPlace {E = E} place link (Ok answer) s events t → LinksPlace {E = F} place link (Ok answer) s events t
-links-ok place link answer s t events h = record { stuck = h.stuck; ends = λ n at. h.ends n at }
+module _ {L : Type 0} (g : Ghosts L) {T E F : Type 0} {place : Place} {link : NodeLink} {mid new : Cache L} where
+  pub links-as : {answer : T} → Performs g (LinksPlace {E = E} place link (Ok answer)) mid new → Performs g (LinksPlace {E = F} place link (Ok answer)) mid new
+  links-as {answer} h = weaker g (LinksPlace {E = E} place link (Ok answer)) (LinksPlace {E = F} place link (Ok answer)) mid new (λ s t events is. record { stuck = is.stuck; ends = λ n at. is.ends n at }) h
 
-pub links-fail : {T E F : Type 0} (place : Place) (link : NodeLink) (e : E) (result : Result T F) → IsErr result → (s t : State) (events : List (Event Update)) → LinksPlace {T = T} place link (Err e) s events t → LinksPlace place link result s events t
-links-fail place link e (Ok answer) failed s t events h = absurd (false≢true failed)
-links-fail place link e (Err f) failed s t events h = record { stuck = h.stuck; ends = λ n at. h.ends n at }
+  pub links-failed : {e : E} {result : Result T F} → IsErr result → Performs g (LinksPlace {T = T} place link (Err e)) mid new → Performs g (LinksPlace place link result) mid new
+  links-failed {result = Ok answer} failed h = absurd (false≢true failed)
+  links-failed {e = e} {result = Err f} failed h = weaker g (LinksPlace {T = T} place link (Err e)) (LinksPlace {T = T} place link (Err f)) mid new (λ s t events is. record { stuck = is.stuck; ends = λ n at. is.ends n at }) h
 
-module _ {L : Type 0} (g : Ghosts L) (root : ℕ) (key : Bytes) (place : Place) (old mid new : Cache L) where
-  abbrev Found : State → List (Event Update) → State → Type 0
-  Found = Reads {E = Error} (Ok place) (λ pages p. IsPlaceOf pages root key p)
+-- the place of the key is found
+abbrev Found : ℕ → Bytes → Place → State → List (Event Update) → State → Type 0
+Found root key place = Reads {E = Error} (Ok place) (λ pages p. IsPlaceOf pages root key p)
 
+module _ {L : Type 0} (g : Ghosts L) {root : ℕ} {key : Bytes} {place : Place} {old mid : Cache L} where
   -- a key that has no value is left
-  pub absent : (E : Type 0) → place.value ≡ None → Performs g Found old mid → Performs g (ChangesMap root (TakesKey {E = E} root key (Ok None))) old mid
-  absent E none found = weaker g Found (ChangesMap root (TakesKey {E = E} root key (Ok None))) old mid by found
+  pub absent : (E : Type 0) → place.value ≡ None → Performs g (Found root key place) old mid → Performs g (ChangesMap root (TakesKey {E = E} root key (Ok None))) old mid
+  absent E none found = weaker g (Found root key place) (ChangesMap root (TakesKey {E = E} root key (Ok None))) old mid by found
     where
-      by : (s t : State) (events : List (Event Update)) → Found s events t → ChangesMap root (TakesKey {E = E} root key (Ok None)) s events t
+      by : (s t : State) (events : List (Event Update)) → Found root key place s events t → ChangesMap root (TakesKey {E = E} root key (Ok None)) s events t
       by s t events h = record {
         follows = quiet-follows s t events (h.none, h.same, h.stuck);
         does = λ w m are has. (sym none ∙ before-is (contents_of s) root key place h.is.1 m (are.trees.each root m has), quiet-stays w s t events (h.none, h.same, h.stuck) are);
       }
 
-  pub deleted : {E : Type 0} (had : Bytes) → place.value ≡ Some had → (result : Result (Option Bytes) E) → IfOk result (λ b. b ≡ place.value) → Performs g Found old mid → Performs g (LinksPlace place (Del place.stored) result) mid new
-      → Performs g (ChangesMap root (TakesKey root key result)) old new
-  deleted had is_there result before found links =
-      weaker g (Then Found (LinksPlace place (Del place.stored) result)) (ChangesMap root (TakesKey root key result)) old new by (then g Found (LinksPlace place (Del place.stored) result) old mid new found links)
-    where
-      by : (s t : State) (events : List (Event Update)) → Then Found (LinksPlace place (Del place.stored) result) s events t → ChangesMap root (TakesKey root key result) s events t
-      by s t events (middle, first, later, is, a, b) =
-          subst (λ (es : List (Event Update)). ChangesMap root (TakesKey root key result) s es t) (sym (is ∙ ap (λ (es : List (Event Update)). es ++ later) a.none))
-          (del-made root key had place is_there result before s t later a.is.1 (subst (λ (u : State). LinksPlace place (Del place.stored) result u later t) a.is.0 b))
+  module _ {E : Type 0} {result : Result (Option Bytes) E} {new : Cache L} (before : IfOk result (λ b. b ≡ place.value)) where
+    pub deleted : {had : Bytes} → place.value ≡ Some had → Performs g (Found root key place) old mid → Performs g (LinksPlace place (Del place.stored) result) mid new → Performs g (ChangesMap root (TakesKey root key result)) old new
+    deleted {had} is_there found links =
+        weaker g (Then (Found root key place) (LinksPlace place (Del place.stored) result)) (ChangesMap root (TakesKey root key result)) old new by (then g (Found root key place) (LinksPlace place (Del place.stored) result) old mid new found links)
+      where
+        by : (s t : State) (events : List (Event Update)) → Then (Found root key place) (LinksPlace place (Del place.stored) result) s events t → ChangesMap root (TakesKey root key result) s events t
+        by s t events (middle, first, later, is, a, b) =
+            subst (λ (es : List (Event Update)). ChangesMap root (TakesKey root key result) s es t) (sym (is ∙ ap (λ (es : List (Event Update)). es ++ later) a.none))
+            (del-made root key had place is_there result before s t later a.is.1 (subst (λ (u : State). LinksPlace place (Del place.stored) result u later t) a.is.0 b))
 
-  -- a key is set where room was made
-  pub inserted : {E : Type 0} (value : Bytes) (result : Result (Option Bytes) E) → IfOk result (λ b. b ≡ place.value) → Performs g (MakesRoom {E = Error} root key (Ok place)) old mid → Performs g (LinksPlace place (Set place.stored value) result) mid new
-      → Performs g (ChangesMap root (SetsKey root key value result)) old new
-  inserted value result before room links =
-      weaker g (Then (MakesRoom {E = Error} root key (Ok place)) (LinksPlace place (Set place.stored value) result)) (ChangesMap root (SetsKey root key value result)) old new by (then g (MakesRoom {E = Error} root key (Ok place)) (LinksPlace place (Set place.stored value) result) old mid new room links)
-    where
-      by : (s t : State) (events : List (Event Update)) → Then (MakesRoom {E = Error} root key (Ok place)) (LinksPlace place (Set place.stored value) result) s events t → ChangesMap root (SetsKey root key value result) s events t
-      by s t events (middle, first, later, is, a, b) =
-          subst (λ (es : List (Event Update)). ChangesMap root (SetsKey root key value result) s es t) (sym is) (set-made root key value place result before s middle t first later a b)
+    -- a key is set where room was made
+    pub inserted : {value : Bytes} → Performs g (MakesRoom {E = Error} root key (Ok place)) old mid → Performs g (LinksPlace place (Set place.stored value) result) mid new → Performs g (ChangesMap root (SetsKey root key value result)) old new
+    inserted {value} room links =
+        weaker g (Then (MakesRoom {E = Error} root key (Ok place)) (LinksPlace place (Set place.stored value) result)) (ChangesMap root (SetsKey root key value result)) old new by
+        (then g (MakesRoom {E = Error} root key (Ok place)) (LinksPlace place (Set place.stored value) result) old mid new room links)
+      where
+        by : (s t : State) (events : List (Event Update)) → Then (MakesRoom {E = Error} root key (Ok place)) (LinksPlace place (Set place.stored value) result) s events t → ChangesMap root (SetsKey root key value result) s events t
+        by s t events (middle, first, later, is, a, b) =
+            subst (λ (es : List (Event Update)). ChangesMap root (SetsKey root key value result) s es t) (sym is) (set-made root key value place result before s middle t first later a b)
 
 -- ---- calls that are refused, and leave the maps
 

@@ -93,9 +93,9 @@ module _ {L : Type 0} (g : Ghosts L) (name : Bytes) where
   drops-absent {E} old new h = weaker g (On (λ pages. IsRootOf name pages None)) (DropsMap {E = E} name (Ok false)) old new by h
     where
       by : (s t : State) (events : List (Event Update)) → On (λ pages. IsRootOf name pages None) s events t → DropsMap {E = E} name (Ok false) s events t
-      by s t events (none, same, is) =
-          let quiet : Quiet s events t = (none, ap contents_of same, λ _. same) in
-          record { follows = quiet-follows s t events quiet; does = λ w are has. (sym (is w are), quiet-stays w s t events quiet are) }
+      by s t events on =
+          let quiet : Quiet s events t = (on.none, ap contents_of on.same, λ _. on.same) in
+          record { follows = quiet-follows s t events quiet; does = λ w are has. (sym (on.is w are), quiet-stays w s t events quiet are) }
 
   module _ (root : ℕ) (tokens : List Token) where
     -- the name isn't taken out
@@ -110,7 +110,7 @@ module _ {L : Type 0} (g : Ghosts L) (name : Bytes) where
     pub drops-failed : {T E F : Type 0} (e : E) (result : Result Bool F) → IsErr result → (old mid new : Cache L) → Performs g (On (HasPages name root tokens)) old mid → Performs g (Unnames {T = T} name root (Err e)) mid new → Performs g (DropsMap name result) old new
     drops-failed e (Ok b) failed old mid new first later = absurd (false≢true failed)
     drops-failed {T} {E} {F} e (Err f) failed old mid new first later =
-        on-deed g (HasPages name root tokens) (Unnames {T = T} name root (Err e)) (DropsMap name (Err f)) old mid new (λ s t events has h. unname-failed {T = T} {E = E} {F = F} e f s t events has h) first later
+        on-deed g (λ s t events has h. unname-failed {T = T} {E = E} {F = F} e f s t events has h) first later
 
     -- it is, and then pages are freed
     unnamed-then : {T E F : Type 0} (done : T) (s t : State) (events : List (Event Update)) → HasPages name root tokens (contents_of s) → Then (Unnames {E = E} name root (Ok done)) (Keeps (AreLoose tokens)) s events t
@@ -129,7 +129,7 @@ module _ {L : Type 0} (g : Ghosts L) (name : Bytes) where
     pub drops : {T E F : Type 0} (done : T) (old looked mid new : Cache L) → Performs g (On (HasPages name root tokens)) old looked → Performs g (Unnames {E = E} name root (Ok done)) looked mid → Performs g (Keeps (AreLoose tokens)) mid new
         → Performs g (DropsMap {E = F} name (Ok true)) old new
     drops {T} {E} {F} done old looked mid new first swap later =
-        on-deed g (HasPages name root tokens) (Then (Unnames {E = E} name root (Ok done)) (Keeps (AreLoose tokens))) (DropsMap {E = F} name (Ok true)) old looked new (λ s t events has h. unnamed-then {T = T} {E = E} {F = F} done s t events has h) first
+        on-deed g (λ s t events has h. unnamed-then {T = T} {E = E} {F = F} done s t events has h) first
         (then g (Unnames {E = E} name root (Ok done)) (Keeps (AreLoose tokens)) looked mid new swap later)
 
   -- the root is looked for, and then the pages are

@@ -44,7 +44,7 @@ module _ {L : Type 0} (g : Ghosts L) (c : Cache L) where
       by : (s t : State) (events : List (Event Update)) → Answers g GetMeta (GotMeta (Ok told)) s events t → On (λ pages. slice_get pages 0 ≡ Some (Roots told.1)) s events t
       by s t events (cache, out, step, is, then_is) =
           let it = meta-read s told out step in
-          (is ∙ ap (λ (o : Outcome). o.changes) it.1, then_is ∙ ap (λ (o : Outcome). o.state) it.1, it.0)
+          record { none = is ∙ ap (λ (o : Outcome). o.changes) it.1; same = then_is ∙ ap (λ (o : Outcome). o.state) it.1; is = it.0 }
 
   -- what is so of the names that were read is so of those that the maps have
   pub reads-names : {T E : Type 0} (Is : meta.Roots → T → Type 0) (view : MetaView) → Steps g c GetMeta (GotMeta (lent_meta (Ok view))) c → Keeps c c (lent_meta (Ok view)) (λ _. c.stamps) → (result : Result T E) → IfOk result (Is view.meta.now)

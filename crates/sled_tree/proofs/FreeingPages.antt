@@ -84,8 +84,8 @@ module _ (tokens : List Token) (page : Token) (is_one : (pages : List Content) (
       by : (answer : Swapped (Unit {0})) → EndsSwap answer s changed events t → Kept (AreLoose tokens) (AreLoose tokens) s events t
       by (Ok (Ok made)) ends = made-kept (AreLoose tokens) s t changed events h.stuck (AreLoose tokens) ends
           (λ w are so. (named w are so, still-loose page.pid (contents_of s) w are (is_one (contents_of s) w so) tokens so))
-      by (Ok (Err back)) ends = (quiet-keeps (AreLoose tokens) s t events (ends.1, ends.0, λ kept. (h.stuck kept).1), stays ends.0)
-      by (Err e) ends = (change-keeps (AreLoose tokens) s t changed events h.stuck {T = Unit {0}} {E = Error} (Err e) ends named, stays ends.0)
+      by (Ok (Err back)) ends = record { keeps = quiet-keeps (AreLoose tokens) s t events (ends.1, ends.0, λ kept. (h.stuck kept).1); leaves = stays ends.0 }
+      by (Err e) ends = record { keeps = change-keeps (AreLoose tokens) s t changed events h.stuck {T = Unit {0}} {E = Error} (Err e) ends named; leaves = stays ends.0 }
 
   -- behind others
   pub frees-on : {L : Type 0} (g : Ghosts L) (old mid new : Cache L) → Performs g (Kept (AreLoose tokens) (AreLoose tokens)) old mid → Performs g (Frees page) mid new → Performs g (Kept (AreLoose tokens) (AreLoose tokens)) old new

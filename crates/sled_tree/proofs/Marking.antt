@@ -6,8 +6,10 @@ use Rattle.sled_base.specs.declared.types.Error.{Error}
 use Rattle.sled_log.specs.Contents.{Update, contents_from}
 use Rattle.sled_log.specs.Events.{Event, Pin, Seal, Cancel}
 use Rattle.sled_log.specs.declared.log.Log.{Ghosts}
+use Rattle.sled_pagecache.specs.Batches.{OpensBatch, SealsBatch, CancelsBatch}
 use Rattle.sled_pagecache.specs.Cache.{Cache, chain_length}
 use Rattle.sled_pagecache.specs.Calls.{HasNoRoom, StepOver}
+use Rattle.sled_pagecache.specs.Inside.MadeLaws.{pin-made, seal-made, cancel-made}
 use Rattle.sled_pagecache.specs.Rows.{IsMade}
 use Rattle.sled_pagecache.specs.State.{State, contents_of}
 use Rattle.sled_pagecache.specs.Step.{Closes, Does, Outcome, Pins, no_change, with_batch_closed}
@@ -108,14 +110,14 @@ module _ {L : Type 0} (g : Ghosts L) where
   flush-refused answer (Ok done) failed old new made = absurd (false≢true failed)
   flush-refused answer (Err e) failed old new made = (flush-keeps answer old new made, tt)
 
-  pub pin-keeps : (answer : Result (Unit {0}) Error) (old new : Cache L) → IsMade g old call.Pin (Pinned answer) new → Performs g KeepsMaps old new
-  pin-keeps answer old new made = of-outcome KeepsMaps call.Pin (Pinned answer) old new made
+  pub pin-keeps : {answer : Result (Unit {0}) Error} {old new : Cache L} → OpensBatch g old answer new → Performs g KeepsMaps old new
+  pin-keeps {answer} {old} {new} opens = of-outcome KeepsMaps call.Pin (Pinned answer) old new (pin-made g old new answer opens)
       (λ cache s out step.
       let leaves = pins s out (chain_length g.state cache) (HasNoRoom g cache.log) answer step in
       record { follows = leaves-follow s out.state out.changes (pin-stuck s out (chain_length g.state cache) (HasNoRoom g cache.log) answer step) leaves; stays = λ w are any. leaves-stay w s out.state out.changes leaves are })
 
-  pub seal-leaves : (answer : Result (Unit {0}) Error) (old new : Cache L) → IsMade g old call.Seal (Sealed answer) new → Performs g LeavesPages old new
-  seal-leaves answer old new made = of-outcome LeavesPages call.Seal (Sealed answer) old new made (λ cache s out step. closes s out Seal refl answer step)
+  pub seal-leaves : {answer : Result (Unit {0}) Error} {old new : Cache L} → SealsBatch g old answer new → Performs g LeavesPages old new
+  seal-leaves {answer} {old} {new} seals = of-outcome LeavesPages call.Seal (Sealed answer) old new (seal-made g old new answer seals) (λ cache s out step. closes s out Seal refl answer step)
 
-  pub cancel-leaves : (answer : Result (Unit {0}) Error) (old new : Cache L) → IsMade g old call.Cancel (Cancelled answer) new → Performs g LeavesPages old new
-  cancel-leaves answer old new made = of-outcome LeavesPages call.Cancel (Cancelled answer) old new made (λ cache s out step. closes s out Cancel refl answer step)
+  pub cancel-leaves : {answer : Result (Unit {0}) Error} {old new : Cache L} → CancelsBatch g old answer new → Performs g LeavesPages old new
+  cancel-leaves {answer} {old} {new} cancels = of-outcome LeavesPages call.Cancel (Cancelled answer) old new (cancel-made g old new answer cancels) (λ cache s out step. closes s out Cancel refl answer step)

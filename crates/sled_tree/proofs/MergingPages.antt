@@ -1,8 +1,7 @@
 -- Two neighbours become one node.
-use Rattle.std.proofs.Common.{◌≡◌, ◌≢◌, ◌⊎◌, inl, inr, ◌∙◌, ℕ, ◌+◌, true, false, List, [], ◌∷◌, ◌++◌, Option, None, Some, Result, Ok, Err, slice_get, slice_set, refl, sym, ap, subst}
+use Rattle.std.proofs.Common.{◌≡◌, ◌≢◌, ◌⊎◌, inl, inr, ◌∙◌, ℕ, ◌+◌, true, false, List, [], ◌∷◌, ◌++◌, None, Some, Result, Ok, slice_get, slice_set, refl, sym, ap, subst}
 use Rattle.std.proofs.lemmas.List.{append-nil}
 use Rattle.std.proofs.lemmas.List.Elements.{All-cons, All-nil}
-use Rattle.std.specs.Prelude.{IfSome, IsErr, ⊤}
 use Rattle.sled_base.specs.Order.{Bytes}
 use Rattle.sled_base.specs.OrderLaws.{not_below_itself}
 use Rattle.sled_base.specs.declared.types.Error.{Error}
@@ -24,7 +23,6 @@ use Rattle.sled_search.specs.Search.{HasNodeAt}
 use Rattle.sled_search.proofs.InARow.{two-parts}
 use Rattle.sled_search.proofs.Merges.{taken-in-among, taken-in-off, taken-out-among, taken-out-beside}
 use Rattle.sled_search.proofs.Together.{with-here}
-use Rattle.sled_tree.specs.Changed.{Reads}
 use Rattle.sled_tree.specs.Dropping.{AreLoose}
 use Rattle.sled_tree.specs.Maps.{ChangesMap, Follows, Keeps, Stays, TakesKey, Turns}
 use Rattle.sled_tree.specs.Merging.{AreJoined, HasPlan, IsParted, IsPlanned}
@@ -40,29 +38,11 @@ use Rattle.sled_tree.specs.declared.splits.Changed.{Changed}
 use Rattle.sled_tree.proofs.Events.{follows-then, known}
 use Rattle.sled_tree.proofs.Keeping.{Kept, change-keeps, made-kept}
 use Rattle.sled_tree.proofs.Naming.{names-stay}
-use Rattle.sled_tree.proofs.Performing.{On, Then, on-quiet, on-then, on-weaker, reads-err, reads-fail, reads-ok, reads-quiet, reads-so, then, weaker}
-
--- ---- looks at several pages
+use Rattle.sled_tree.proofs.Performing.{Then, then, weaker}
 
 -- the index without a child, as two links make it
 pub taken : (n : WholeNode) (page : ℕ) → n.child ≡ None → applied ParentMergeConfirm (applied (ParentMergeIntention page) n) ≡ record n { pairs = without_child page n.pairs }
 taken n page none = rw (← none) refl
-
-module _ {L : Type 0} (g : Ghosts L) {T : Type 0} (Is : List Content → T → Type 0) where
-  -- what was looked for isn't there
-  pub reads-none : (P : List Content → Type 0) (old new : Cache L) → Performs g (On P) old new → Performs g (Reads {E = Error} (Ok None) (λ pages made. IfSome made (Is pages))) old new
-  reads-none P old new h = reads-ok g (λ pages (made : Option T). IfSome made (Is pages)) old new None (on-weaker g P (λ _. ⊤) old new (λ _ _. tt) h)
-
-  -- a later look failed
-  pub reads-failed : {U : Type 0} (P : List Content → Type 0) (Q : List Content → U → Type 0) (read : Result U Error) (result : Result T Error) → IsErr result → (old mid new : Cache L)
-      → Performs g (On P) old mid → Performs g (Reads read Q) mid new → Performs g (Reads result Is) old new
-  reads-failed P Q read result failed old mid new h more = reads-fail g Is result old new failed (on-quiet g P old mid new h (reads-quiet g Q read mid new more))
-
-module _ {L : Type 0} (g : Ghosts L) {T : Type 0} (P : List Content → Type 0) (Q Is : List Content → T → Type 0) (old mid new : Cache L) (into : (pages : List Content) → P pages → (answer : T) → Q pages answer → Is pages answer) where
-  -- a look behind others, with what they found
-  pub reads-then : (result : Result T Error) → Performs g (On P) old mid → Performs g (Reads result Q) mid new → Performs g (Reads result Is) old new
-  reads-then (Ok answer) first more = reads-ok g Is old new answer (on-then g P (λ pages. Q pages answer) (λ pages. Is pages answer) old mid new (λ pages p q. into pages p answer q) first (reads-so g Q mid new answer more))
-  reads-then (Err e) first more = reads-err g Is old new e (on-quiet g P old mid new first (reads-quiet g Q (Err e) mid new more))
 
 -- both neighbours, and the index above
 module _ (pages : List Content) (root above : ℕ) (neighbours : Neighbours) (joined : Joined) (parted : Parted) where

@@ -85,8 +85,8 @@ numbers-keep answer s t events stuck (inr (start, n, at, ends)) = change-keeps A
       trees = all-off pages (slice_set pages 1 (Counter start)) w.maps 1 are.trees (no-node-off pages w.maps 1 are.trees (λ k there. let e : Some (Counter n) ≡ Some (Node k) = sym at ∙ there in cc)) (set-one pages 1 (Counter start));
     }
 
-pub id-keeps : {L : Type 0} (g : Ghosts L) (answer : Result ℕ Error) (old new : Cache L) → IsMade g old GenerateId (Generated answer) new → Performs g KeepsMaps old new
-id-keeps g answer old new made = weaker g (Answers g GenerateId (Generated answer)) KeepsMaps old new by (one g old new GenerateId (Generated answer) made)
+pub id-keeps : {L : Type 0} (g : Ghosts L) {answer : Result ℕ Error} {old new : Cache L} → IsMade g old GenerateId (Generated answer) new → Performs g KeepsMaps old new
+id-keeps g {answer} {old} {new} made = weaker g (Answers g GenerateId (Generated answer)) KeepsMaps old new by (one g old new GenerateId (Generated answer) made)
   where
     by : (s t : State) (events : List (Event Update)) → Answers g GenerateId (Generated answer) s events t → KeepsMaps s events t
     by s t events (cache, out, step, is, then_is) = numbers-keep answer s t events

@@ -262,13 +262,13 @@ module _ {L : Type 0} (g : Ghosts L) (name : Bytes) where
       by (stuck, (roots, had, made)) =
           let behind = swap-follows root (Ok (Ok done)) mid t later (stuck, (roots, had, made)) in
           record {
-            follows = follows-then s mid t first later a.0.follows behind;
+            follows = follows-then s mid t first later a.keeps.follows behind;
             does = λ w are.
-                let so_far = a.0.stays w are tt in
-                let has = a.1 w are tt in
+                let so_far = a.keeps.stays w are tt in
+                let has = a.leaves w are tt in
                 inr (
                   is-free mid name leaf root roots had w so_far.1 has,
-                  turns-then w s mid t first later a.0.follows behind so_far (with_new name root w) (λ none. subst (λ (es : List (Event Update)). Makes (contents_of mid) (named mid name root roots) es) none made.0)
+                  turns-then w s mid t first later a.keeps.follows behind so_far (with_new name root w) (λ none. subst (λ (es : List (Event Update)). Makes (contents_of mid) (named mid name root roots) es) none made.0)
                       (made-turns w (with_new name root w) mid t (named mid name root roots) later made so_far.1 (is-new mid name leaf root roots had w so_far.1 has)),
                 );
           }
@@ -289,14 +289,14 @@ module _ {L : Type 0} (g : Ghosts L) (name : Bytes) where
       by (stuck, (same, inr (roots, had, makes, fault))) =
           let behind = swap-follows root (Err e) mid t later (stuck, (same, inr (roots, had, makes, fault))) in
           record {
-            follows = follows-then s mid t first later a.0.follows behind;
+            follows = follows-then s mid t first later a.keeps.follows behind;
             does = λ w are.
-                let so_far = a.0.stays w are tt in
-                let has = a.1 w are tt in
+                let so_far = a.keeps.stays w are tt in
+                let has = a.leaves w are tt in
                 inr (
                   root,
                   is-free mid name leaf root roots had w so_far.1 has,
-                  unless-then w s mid t first later a.0.follows behind so_far (with_new name root w)
+                  unless-then w s mid t first later a.keeps.follows behind so_far (with_new name root w)
                       (unmade-stays w (with_new name root w) mid t (named mid name root roots) later (same, inr (makes, fault)) so_far.1 (is-new mid name leaf root roots had w so_far.1 has)),
                 );
           }
@@ -329,7 +329,7 @@ module _ {L : Type 0} (g : Ghosts L) (name : Bytes) where
         failed-by result e goes.1 old new (none-more calls after new goes.0 rest (allot-fails (HasLeaf leaf) (index_over leaf) e old mid after so_far (allotted g mid after (index_over leaf) (Err e) is)))
 
     puts-index : (leaf : ℕ) (calls : MadeCalls) (mid new : Cache L) → Performs g (Kept Any (HasLeaf leaf)) old mid → AreMade g mid calls new → PutsIndex never name result leaf calls → Performs g (OfRoot name result) old new
-    puts-index leaf calls mid new so_far made (inl h) = failed-by result OutOfMemory h.1 old new (none-more calls mid new h.0 made (kept-end g Any (HasLeaf leaf) old mid so_far))
+    puts-index leaf calls mid new so_far made (inl h) = failed-by result OutOfMemory h.1 old new (none-more calls mid new h.0 made (kept-end g so_far))
     puts-index leaf calls mid new so_far made (inr (answer, others, is, goes)) =
         let (after, one_made, rest) = subst (λ (cs : MadeCalls). AreMade g mid cs new) is made in
         over leaf answer others mid after new so_far one_made rest goes
@@ -345,7 +345,7 @@ module _ {L : Type 0} (g : Ghosts L) (name : Bytes) where
     opens look (Err e) calls mid new is rest finds goes = failed-by result e goes.1 old new (none-more calls mid new goes.0 rest (keeps-quiet g Any old mid (looked look old mid is)))
     opens look (Ok None) calls mid new is rest finds (answer, others, eq, goes) =
         let (after, one_made, more) = subst (λ (cs : MadeCalls). AreMade g mid cs new) eq rest in
-        with-leaf answer others mid after new (weaker g Quiet (Kept Any Any) old mid (λ s t events is. (quiet-keeps Any s t events is, λ w are so. tt)) (looked look old mid is)) one_made more goes
+        with-leaf answer others mid after new (weaker g Quiet (Kept Any Any) old mid (λ s t events is. record { keeps = quiet-keeps Any s t events is; leaves = λ w are so. tt }) (looked look old mid is)) one_made more goes
     opens (Err e) (Ok (Some root)) calls mid new is rest finds goes = absurd (let f = finds in cc)
     opens (Ok told) (Ok (Some root)) calls mid new is rest finds goes =
         subst (λ (r : Result ℕ Error). Performs g (OfRoot name r) old new) (sym goes.1)
@@ -373,5 +373,5 @@ module _ {L : Type 0} (g : Ghosts L) {T E : Type 0} (root : T → ℕ) (name : B
     where
       by : (s t : State) (events : List (Event Update)) → On (λ _. ⊤) s events t → OpensMap {T = T} {E = E} root name (Err f) s events t
       by s t events is =
-          let keeps = quiet-keeps Any s t events (is.0, ap contents_of is.1, λ _. is.1) in
+          let keeps = quiet-keeps Any s t events (is.none, ap contents_of is.same, λ _. is.same) in
           record { follows = keeps.follows; does = λ w are. inl (keeps.stays w are tt) }

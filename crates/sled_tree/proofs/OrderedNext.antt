@@ -2,7 +2,8 @@
 use Rattle.std.proofs.Common.{◌≡◌, ◌≢◌, ◌⊎◌, inl, inr, Bool, true, false, not, cond, [], ◌∷◌, Option, None, Some, refl, sym, ◌∙◌, ap, subst}
 use Rattle.std.specs.declared.ops.Bound.{Bound}
 use Rattle.std.specs.declared.ops.Bound.TheVariants.{Included, Excluded, Unbounded}
-use Rattle.sled_base.specs.Order.{Bytes, IsBelow, IsAtMost}
+use Rattle.std.specs.Prelude.{◌↔◌}
+use Rattle.sled_base.specs.Order.{Bytes, IsBelow, IsAtMost, is_below}
 use Rattle.sled_base.specs.OrderLaws.{below_is_at_most, not_below_itself, below_or_same}
 use Rattle.sled_node.specs.Neighbours.{IsBehind, IsBefore}
 use Rattle.sled_node.specs.Pairs.{IsAscending}
@@ -16,25 +17,21 @@ use Rattle.sled_tree.specs.Ordered.{is_behind, behind, before, first_of, last_of
 
 -- ---- a key is on a side of a bound where the test says so
 
-pub is-behind : (bound : Bound Bytes) (key : Bytes) → IsBehind bound key → is_behind bound key ≡ true
-is-behind (Included b) key h = ap not (not-below key b h)
-is-behind (Excluded b) key h = is-below b key h
-is-behind Unbounded key h = refl
+below-says : (a b : Bytes) → IsBelow a b ↔ (is_below a b ≡ true)
+below-says a b = (is-below a b, below-is a b)
 
-pub behind-is : (bound : Bound Bytes) (key : Bytes) → is_behind bound key ≡ true → IsBehind bound key
-behind-is (Included b) key h = λ lt. absurd (let e = is-below key b lt in let f = rw e at h in cc)
-behind-is (Excluded b) key h = below-is b key h
-behind-is Unbounded key h = tt
+at-most-says : (a b : Bytes) → IsAtMost a b ↔ (not (is_below b a) ≡ true)
+at-most-says a b = (λ h. ap not (not-below b a h), λ h lt. absurd (let e = is-below b a lt in let f = rw e at h in cc))
 
-pub is-before : (bound : Bound Bytes) (key : Bytes) → IsBefore bound key → is_before bound key ≡ true
-is-before (Included b) key h = ap not (not-below b key h)
-is-before (Excluded b) key h = is-below key b h
-is-before Unbounded key h = refl
+pub behind-says : (bound : Bound Bytes) (key : Bytes) → IsBehind bound key ↔ (is_behind bound key ≡ true)
+behind-says (Included b) key = at-most-says b key
+behind-says (Excluded b) key = below-says b key
+behind-says Unbounded key = (λ _. refl, λ _. tt)
 
-pub before-is : (bound : Bound Bytes) (key : Bytes) → is_before bound key ≡ true → IsBefore bound key
-before-is (Included b) key h = λ lt. absurd (let e = is-below b key lt in let f = rw e at h in cc)
-before-is (Excluded b) key h = below-is key b h
-before-is Unbounded key h = tt
+pub before-says : (bound : Bound Bytes) (key : Bytes) → IsBefore bound key ↔ (is_before bound key ≡ true)
+before-says (Included b) key = at-most-says key b
+before-says (Excluded b) key = below-says key b
+before-says Unbounded key = (λ _. refl, λ _. tt)
 
 -- ---- the first and the last of pairs that rise
 
@@ -107,12 +104,12 @@ module _ (bound : Bound Bytes) (m : Map) (up : IsAscending m) where
       by : (ys : Map) → IsAscending ys → ((key value : Bytes) → at_key ys key ≡ Some value → (is_behind bound key ≡ true) × (at_key m key ≡ Some value))
           → ((key value : Bytes) → is_behind bound key ≡ true → at_key m key ≡ Some value → at_key ys key ≡ Some value) → (answer : Option (Bytes × Bytes)) → IsNextAbove m bound answer → answer ≡ first_of ys
       by [] rise from into None is = refl
-      by [] rise from into (Some pair) is = absurd (let e = into pair.0 pair.1 (is-behind bound pair.0 is.1) is.0 in cc)
-      by (y ∷ ys) rise from into None is = let has = from y.0 y.1 (there y ys) in absurd (is y.0 y.1 has.1 (behind-is bound y.0 has.0))
+      by [] rise from into (Some pair) is = absurd (let e = into pair.0 pair.1 ((behind-says bound pair.0).0 is.1) is.0 in cc)
+      by (y ∷ ys) rise from into None is = let has = from y.0 y.1 (there y ys) in absurd (is y.0 y.1 has.1 ((behind-says bound y.0).1 has.0))
       by (y ∷ ys) rise from into (Some pair) is =
           let has = from y.0 y.1 (there y ys) in
-          let le = is.2 y.0 y.1 has.1 (behind-is bound y.0 has.0) in
-          let le' = from-first y ys pair.0 pair.1 rise (into pair.0 pair.1 (is-behind bound pair.0 is.1) is.0) in
+          let le = is.2 y.0 y.1 has.1 ((behind-says bound y.0).1 has.0) in
+          let le' = from-first y ys pair.0 pair.1 rise (into pair.0 pair.1 ((behind-says bound pair.0).0 is.1) is.0) in
           same-key m pair y (as-one pair.0 y.0 le le') is.0 has.1
 
   pub last-is : (answer : Option (Bytes × Bytes)) → IsNextBelow m bound answer → answer ≡ last_of (before bound m)
@@ -121,11 +118,11 @@ module _ (bound : Bound Bytes) (m : Map) (up : IsAscending m) where
       by : (ys : Map) → IsAscending ys → ((key value : Bytes) → at_key ys key ≡ Some value → (is_before bound key ≡ true) × (at_key m key ≡ Some value))
           → ((key value : Bytes) → is_before bound key ≡ true → at_key m key ≡ Some value → at_key ys key ≡ Some value) → (answer : Option (Bytes × Bytes)) → IsNextBelow m bound answer → answer ≡ last_of ys
       by [] rise from into None is = refl
-      by [] rise from into (Some pair) is = absurd (let e = into pair.0 pair.1 (is-before bound pair.0 is.1) is.0 in cc)
-      by (y ∷ ys) rise from into None is = let has = from y.0 y.1 (there y ys) in absurd (is y.0 y.1 has.1 (before-is bound y.0 has.0))
+      by [] rise from into (Some pair) is = absurd (let e = into pair.0 pair.1 ((before-says bound pair.0).0 is.1) is.0 in cc)
+      by (y ∷ ys) rise from into None is = let has = from y.0 y.1 (there y ys) in absurd (is y.0 y.1 has.1 ((before-says bound y.0).1 has.0))
       by (y ∷ ys) rise from into (Some pair) is =
           let (z, it) = ends y ys rise in
           let has = from z.0 z.1 it.has in
-          let le = is.2 z.0 z.1 has.1 (before-is bound z.0 has.0) in
-          let le' = it.most pair.0 pair.1 (into pair.0 pair.1 (is-before bound pair.0 is.1) is.0) in
+          let le = is.2 z.0 z.1 has.1 ((before-says bound z.0).1 has.0) in
+          let le' = it.most pair.0 pair.1 (into pair.0 pair.1 ((before-says bound pair.0).0 is.1) is.0) in
           same-key m pair z (as-one pair.0 z.0 le' le) is.0 has.1 ∙ sym it.last

@@ -2,6 +2,7 @@
 use Rattle.std.proofs.Common.{◌≡◌, ◌≢◌, ◌≤◌, ℕ, zero, suc, ◌+◌, ◌-◌, Bool, true, false, cond, List, [], ◌∷◌, ◌++◌, length, take, drop, Option, None, Some, slice_get, refl, sym, ◌∙◌, ap, subst, add-one, arith}
 use Rattle.std.specs.List.{AllByRecursion}
 use Rattle.std.specs.Option.{option_map}
+use Rattle.std.specs.Prelude.{◌↔◌}
 use Rattle.std.specs.Str.{bytes_eq}
 use Rattle.std.specs.declared.ops.Bound.{Bound}
 use Rattle.std.specs.declared.ops.Bound.TheVariants.{Included, Excluded, Unbounded}
@@ -19,7 +20,7 @@ use Rattle.sled_search.proofs.Same.{same-pairs}
 use Rattle.sled_search.proofs.Separated.{never-below}
 use Rattle.sled_search.proofs.Splits.{below_at_most}
 use Rattle.sled_tree.proofs.OrderedLists.{keep, at-keep, ascending-kept, all-kept, keep-all, keep-none, keep-same, keep-twice, keep-always, keep-never, cut}
-use Rattle.sled_tree.proofs.OrderedNext.{is-behind, behind-is, is-before, before-is}
+use Rattle.sled_tree.proofs.OrderedNext.{behind-says, before-says}
 use Rattle.sled_tree.specs.Ordered.{is_behind, behind, before, within}
 use Rattle.sled_tree.specs.OrderedLeaves.{as_items}
 
@@ -92,33 +93,23 @@ place-more first at pairs so_far key value le e front =
 
 -- ---- the places of a leaf that are within two bounds
 
-module _ (from to : Bound Bytes) (key : Bytes) where
-  not-behind : (IsBehind from key → ⊥) → is_behind from key ≡ false
-  not-behind never = by (is_behind from key) refl
-    where
-      by : (b : Bool) → is_behind from key ≡ b → b ≡ false
-      by true is = absurd (never (behind-is from key is))
-      by false is = refl
-
-  not-before : (IsBefore to key → ⊥) → is_before to key ≡ false
-  not-before never = by (is_before to key) refl
-    where
-      by : (b : Bool) → is_before to key ≡ b → b ≡ false
-      by true is = absurd (never (before-is to key is))
-      by false is = refl
+-- a test fails where what it says isn't so
+fails : {Is : Type 0} {test : Bool} → Is ↔ (test ≡ true) → (Is → ⊥) → test ≡ false
+fails {test = true} says never = absurd (never (says.1 refl))
+fails {test = false} says never = refl
 
 module _ {V : Type 0} (from to : Bound Bytes) where
   all-behind-are : (pairs : List (Bytes × V)) → AllByRecursion (λ pair. IsBehind from pair.0) pairs → behind from pairs ≡ pairs
-  all-behind-are pairs all = keep-all (is_behind from) pairs (all-weaker (λ pair. IsBehind from pair.0) (λ pair. is_behind from pair.0 ≡ true) (λ pair h. is-behind from pair.0 h) pairs all)
+  all-behind-are pairs all = keep-all (is_behind from) pairs (all-weaker (λ pair. IsBehind from pair.0) (λ pair. is_behind from pair.0 ≡ true) (λ pair h. (behind-says from pair.0).0 h) pairs all)
 
   none-before : (pairs : List (Bytes × V)) → AllByRecursion (λ pair. IsBefore to pair.0 → ⊥) pairs → within from to pairs ≡ []
   none-before pairs all = keep-none (is_before to) (behind from pairs) (all-kept (λ pair. is_before to pair.0 ≡ false) (is_behind from) pairs
-      (all-weaker (λ pair. IsBefore to pair.0 → ⊥) (λ pair. is_before to pair.0 ≡ false) (λ pair never. not-before from to pair.0 never) pairs all))
+      (all-weaker (λ pair. IsBefore to pair.0 → ⊥) (λ pair. is_before to pair.0 ≡ false) (λ pair never. fails (before-says to pair.0) never) pairs all))
 
   before-places : (end : ℕ) (pairs : List (Bytes × V)) → AllByRecursion (λ pair. IsBefore to pair.0) (take end pairs) → AllByRecursion (λ pair. IsBefore to pair.0 → ⊥) (drop end pairs) → before to pairs ≡ take end pairs
-  before-places zero pairs front back = keep-none (is_before to) pairs (all-weaker (λ pair. IsBefore to pair.0 → ⊥) (λ pair. is_before to pair.0 ≡ false) (λ pair never. not-before from to pair.0 never) pairs back)
+  before-places zero pairs front back = keep-none (is_before to) pairs (all-weaker (λ pair. IsBefore to pair.0 → ⊥) (λ pair. is_before to pair.0 ≡ false) (λ pair never. fails (before-says to pair.0) never) pairs back)
   before-places (suc end) [] front back = refl
-  before-places (suc end) (pair ∷ pairs) front back = rw (is-before to pair.0 front.0) (ap (λ (ps : List (Bytes × V)). pair ∷ ps) (before-places end pairs front.1 back))
+  before-places (suc end) (pair ∷ pairs) front back = rw ((before-says to pair.0).0 front.0) (ap (λ (ps : List (Bytes × V)). pair ∷ ps) (before-places end pairs front.1 back))
 
   places : (first end : ℕ) (pairs : List (Bytes × V)) → first ≤ end
       → AllByRecursion (λ pair. IsBehind from pair.0 → ⊥) (take first pairs) → AllByRecursion (λ pair. IsBehind from pair.0) (drop first pairs)
@@ -131,14 +122,14 @@ module _ {V : Type 0} (from to : Bound Bytes) where
       by : (n : ℕ) → ◌≡◌ {A = List (Bytes × V)} [] (take n [])
       by zero = refl
       by (suc n) = refl
-  places (suc first) (suc end) (pair ∷ pairs) le low high front back = let less : suc end - suc first ≡ end - first = omega arith in rw (not-behind from to pair.0 low.0, less) (places first end pairs (omega (arith, le)) low.1 high front.1 back)
+  places (suc first) (suc end) (pair ∷ pairs) le low high front back = let less : suc end - suc first ≡ end - first = omega arith in rw (fails (behind-says from pair.0) low.0, less) (places first end pairs (omega (arith, le)) low.1 high front.1 back)
 
   no-places : (first end : ℕ) (pairs : List (Bytes × V)) → end ≤ first
       → AllByRecursion (λ pair. IsBehind from pair.0 → ⊥) (take first pairs) → AllByRecursion (λ pair. IsBefore to pair.0 → ⊥) (drop end pairs) → within from to pairs ≡ []
   no-places first zero pairs le low back = none-before pairs back
   no-places zero (suc end) pairs le low back = absurd (omega (arith, le))
   no-places (suc first) (suc end) [] le low back = refl
-  no-places (suc first) (suc end) (pair ∷ pairs) le low back = rw (not-behind from to pair.0 low.0) (no-places first end pairs (omega (arith, le)) low.1 back)
+  no-places (suc first) (suc end) (pair ∷ pairs) le low back = rw (fails (behind-says from pair.0) low.0) (no-places first end pairs (omega (arith, le)) low.1 back)
 
   pub within-places : (pairs : List (Bytes × V)) (first end : ℕ) → IsCount (λ key. IsBehind from key → ⊥) (IsBehind from) pairs first → IsCount (IsBefore to) (λ key. IsBefore to key → ⊥) pairs end
       → first ≤ end → within from to pairs ≡ take (end - first) (drop first pairs)
@@ -169,14 +160,14 @@ module _ (n : WholeNode) (key : Bytes) where
     where
       by : (hi : Bytes) → (hi ≢ [] → IsBelow key hi) → is_before (end_of hi) key ≡ true
       by [] below = refl
-      by (x ∷ hi) below = is-before (Excluded (x ∷ hi)) key (below (λ e. absurd (let h = e in cc)))
+      by (x ∷ hi) below = (before-says (Excluded (x ∷ hi)) key).0 (below (λ e. absurd (let h = e in cc)))
 
   end-before : (hi : Bytes) → is_before (end_of hi) key ≡ true → hi ≢ [] → IsBelow key hi
   end-before [] h some = absurd (some refl)
-  end-before (x ∷ hi) h some = before-is (Excluded (x ∷ hi)) key h
+  end-before (x ∷ hi) h some = (before-says (Excluded (x ∷ hi)) key).1 h
 
   in-range : is_before (end_of n.hi) key ≡ true → is_behind (Included n.lo) key ≡ true → IsInRange n key
-  in-range high low = (behind-is (Included n.lo) key low, end-before n.hi high)
+  in-range high low = ((behind-says (Included n.lo) key).1 low, end-before n.hi high)
 
 -- the pairs of a leaf, which has what the map has at each key of its range
 module _ (n : WholeNode) (m : Map) (up : IsAscending m) (well : IsWellFormed n) (shows : (key : Bytes) → IsInRange n key → at_key n.pairs key ≡ option_map Value (at_key m key)) where
@@ -194,7 +185,7 @@ module _ (n : WholeNode) (m : Map) (up : IsAscending m) (well : IsWellFormed n) 
     where
       by : (high low : Bool) → is_before (end_of n.hi) key ≡ high → is_behind (Included n.lo) key ≡ low → at_key own key ≡ cond high (cond low (at_key m key) None) None → at_key n.pairs key ≡ option_map Value (at_key own key)
       by true true high low is = rw is (shows key (in-range n key high low))
-      by true false high low is = rw is (lacks key (λ range. absurd (let h = is-behind (Included n.lo) key range.0 in cc)))
+      by true false high low is = rw is (lacks key (λ range. absurd (let h = (behind-says (Included n.lo) key).0 range.0 in cc)))
       by false low high low' is = rw is (lacks key (λ range. absurd (let h = before-end n key range in cc)))
 
   pub leaf-pairs : n.pairs ≡ as_items own
@@ -239,7 +230,7 @@ module _ (m : Map) (up : IsAscending m) (lo hi : Bytes) where
 
   module _ (from to : Bound Bytes) (low : IsAtMost lo (start_of from)) where
     from-low : (key : Bytes) → is_behind from key ≡ true → is_behind (Included lo) key ≡ true
-    from-low key h = is-behind (Included lo) key (at_most_trans lo (start_of from) key low (behind-from from key (behind-is from key h)))
+    from-low key h = (behind-says (Included lo) key).0 (at_most_trans lo (start_of from) key low (behind-from from key ((behind-says from key).1 h)))
 
     up-to : keep (is_before (end_of hi)) (within from to m) ≡ within from to ranged
     up-to =
@@ -262,7 +253,7 @@ module _ (m : Map) (up : IsAscending m) (lo hi : Bytes) where
         ∙ ap (λ (ps : Map). within from to ranged ++ ps) behind-end
       where
         from-high : (key : Bytes) → is_behind (Included hi) key ≡ true → is_behind from key ≡ true
-        from-high key h = is-behind from key (above-behind from key (below_at_most (start_of from) hi key high (behind-is (Included hi) key h)))
+        from-high key h = (behind-says from key).0 (above-behind from key (below_at_most (start_of from) hi key high ((behind-says (Included hi) key).1 h)))
 
         behind-end : behind (Included hi) (within from to m) ≡ within (Included hi) to m
         behind-end =
@@ -285,7 +276,7 @@ module _ (m : Map) (up : IsAscending m) (lo hi : Bytes) where
       keep-twice (is_behind (Included hi)) (is_behind (Included lo)) m
       ∙ keep-same (λ key. cond (is_behind (Included lo) key) (is_behind (Included hi) key) false) (is_behind (Included hi)) m
       (λ key. one-of-both (is_behind (Included lo) key) (is_behind (Included hi) key)
-      (λ h. is-behind (Included lo) key (below_is_at_most lo key (below_at_most lo hi key high (behind-is (Included hi) key h)))))
+      (λ h. (behind-says (Included lo) key).0 (below_is_at_most lo key (below_at_most lo hi key high ((behind-says (Included hi) key).1 h)))))
       )
 
 -- ---- nothing is within
@@ -295,10 +286,10 @@ pub none-past : (end : Bytes) (to : Bound Bytes) (m : Map) → is_before to end 
 none-past end to m past = both (Included end) to m ∙ keep-same (λ key. cond (is_behind (Included end) key) (is_before to key) false) (λ _. false) m (λ key. by key (is_behind (Included end) key) (is_before to key) refl refl) ∙ keep-never m
   where
     by : (key : Bytes) (a b : Bool) → is_behind (Included end) key ≡ a → is_before to key ≡ b → cond a b false ≡ false
-    by key true true high low = absurd (let h = is-before to end (before-down to key end (before-is to key low) (behind-is (Included end) key high)) in cc)
+    by key true true high low = absurd (let h = (before-says to end).0 (before-down to key end ((before-says to key).1 low) ((behind-says (Included end) key).1 high)) in cc)
     by key true false high low = refl
     by key false b high low = refl
 
 -- from the empty key on, and behind no bound, are all
 pub all-behind : (m : Map) → behind (Included []) m ≡ m
-all-behind m = keep-same (is_behind (Included [])) (λ _. true) m (λ key. is-behind (Included []) key (never-below key)) ∙ keep-always m
+all-behind m = keep-same (is_behind (Included [])) (λ _. true) m (λ key. (behind-says (Included []) key).0 (never-below key)) ∙ keep-always m

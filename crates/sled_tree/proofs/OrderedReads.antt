@@ -10,17 +10,17 @@ use Rattle.sled_node.specs.Node.{WholeNode, IsInRange}
 use Rattle.sled_pagecache.specs.Cache.{Cache}
 use Rattle.sled_search.specs.Ordered.{LeadsBefore, GoesBefore}
 use Rattle.sled_search.specs.Routes.{Routes, RoutesBefore}
-use Rattle.sled_search.specs.Search.{HasNodeAt, LeadsTo, ComesToLeafOf, IsLeafOf}
+use Rattle.sled_search.specs.Search.{HasNodeAt, ComesToLeafOf, IsLeafOf}
 use Rattle.sled_search.specs.declared.turns.Turn.{Turn}
 use Rattle.sled_search.specs.declared.turns.Turn.TheVariants.{Here, Down, Right}
 use Rattle.sled_search.proofs.Before.{before-then}
-use Rattle.sled_search.proofs.Search.{goes-finds}
+use Rattle.sled_search.proofs.Search.{goes-finds, goes-then}
 use Rattle.sled_tree.specs.Changed.{Reads}
 use Rattle.sled_tree.specs.OrderedLeaves.{ComesBefore}
 use Rattle.sled_tree.specs.Performs.{Performs}
 use Rattle.sled_tree.specs.Walks.{Leads}
-use Rattle.sled_tree.proofs.Performing.{On, nothing, on-then, on-quiet, on-weaker, reads-ok, reads-err, reads-fail, reads-so, reads-quiet}
-use Rattle.sled_tree.proofs.Walking.{goes-on, routes-on}
+use Rattle.sled_tree.proofs.Performing.{On, nothing, on-any, on-then, on-quiet, on-weaker, reads-as, reads-ok, reads-err, reads-fail, reads-so, reads-quiet}
+use Rattle.sled_tree.proofs.Walking.{routes-on}
 
 -- ---- one look, and then another
 
@@ -29,35 +29,57 @@ abbrev pub LedBefore : ℕ → Bound Bytes → ℕ → List Content → Type 0
 LedBefore root bound at pages = (turns : ℕ) × GoesBefore pages bound turns root at
 
 module _ {L : Type 0} (g : Ghosts L) where
-  -- what was seen first, and what is read then, give what is said
-  pub reads-then : {T E : Type 0} (P : List Content → Type 0) (Q Is : List Content → T → Type 0) (old mid new : Cache L) → ((pages : List Content) → P pages → (answer : T) → Q pages answer → Is pages answer)
-      → Performs g (On P) old mid → (result : Result T E) → Performs g (Reads result Q) mid new → Performs g (Reads result Is) old new
-  reads-then P Q Is old mid new both first (Ok answer) h = reads-ok g Is old new answer
-      (on-then g P (λ pages. Q pages answer) (λ pages. Is pages answer) old mid new (λ pages p q. both pages p answer q) first (reads-so g Q mid new answer h))
-  reads-then P Q Is old mid new both first (Err e) h = reads-err g Is old new e (on-quiet g P old mid new first (reads-quiet g Q (Err e) mid new h))
-
   -- what was read says more
-  pub reads-more : {T E : Type 0} (Q Is : List Content → T → Type 0) (old new : Cache L) → ((pages : List Content) (answer : T) → Q pages answer → Is pages answer)
-      → (result : Result T E) → Performs g (Reads result Q) old new → Performs g (Reads result Is) old new
-  reads-more Q Is old new into (Ok answer) h = reads-ok g Is old new answer (on-weaker g (λ pages. Q pages answer) (λ pages. Is pages answer) old new (λ pages q. into pages answer q) (reads-so g Q old new answer h))
-  reads-more Q Is old new into (Err e) h = reads-err g Is old new e (reads-quiet g Q (Err e) old new h)
+  pub reads-more : {T E : Type 0} {Was Is : List Content → T → Type 0} {result : Result T E} {old new : Cache L} → ((pages : List Content) (answer : T) → Was pages answer → Is pages answer)
+      → Performs g (Reads result Was) old new → Performs g (Reads result Is) old new
+  reads-more {result = Ok answer} into h = reads-as g (λ pages is. into pages answer is) h
+  reads-more {Was = Was} {Is = Is} {result = Err e} {old = old} {new = new} into h = reads-err g Is old new e (reads-quiet g Was (Err e) old new h)
 
-  -- what was seen, and what is read then, tell of what is read
-  pub read-on : {S T E : Type 0} (Was : List Content → S → Type 0) (Read Is : List Content → T → Type 0) (seen : S) (found : T) (old mid new : Cache L)
-      → ((pages : List Content) → Was pages seen → Read pages found → Is pages found) → Performs g (On (λ pages. Was pages seen)) old mid
-      → Performs g (Reads {E = E} (Ok found) Read) mid new → Performs g (On (λ pages. Is pages found)) old new
-  read-on Was Read Is seen found old mid new both so_far next =
-      on-then g (λ pages. Was pages seen) (λ pages. Read pages found) (λ pages. Is pages found) old mid new both so_far (reads-so g Read mid new found next)
+  -- ---- a walk: what was seen last, and what is read then
 
-  -- what was seen is the answer
-  pub read-ends : {T E : Type 0} (P : List Content → Type 0) (Is : List Content → T → Type 0) (answer : T) (old new : Cache L)
-      → ((pages : List Content) → P pages → Is pages answer) → Performs g (On P) old new → Performs g (Reads {E = E} (Ok answer) Is) old new
-  read-ends P Is answer old new into seen = reads-ok g Is old new answer (on-weaker g P (λ pages. Is pages answer) old new into seen)
+  -- the first look
+  pub read-first : {T E : Type 0} {Is : List Content → T → Type 0} {seen : T} {old new : Cache L} → Performs g (Reads {E = E} (Ok seen) Is) old new → Performs g (On (λ pages. Is pages seen)) old new
+  read-first {Is = Is} {seen = seen} {old = old} {new = new} h = reads-so g Is old new seen h
 
-  -- what is read then is an error
-  pub read-fails : {T U E F : Type 0} (P : List Content → Type 0) (Read : List Content → T → Type 0) (Is : List Content → U → Type 0) (found : Result T E) (result : Result U F)
-      (old mid new : Cache L) → IsErr result → Performs g (On P) old mid → Performs g (Reads found Read) mid new → Performs g (Reads result Is) old new
-  read-fails P Read Is found result old mid new failed so_far next = reads-fail g Is result old new failed (on-quiet g P old mid new so_far (reads-quiet g Read found mid new next))
+  -- the first look fails
+  pub first-fails : {T U E F : Type 0} {Read : List Content → T → Type 0} {Is : List Content → U → Type 0} {read : Result T E} {result : Result U F} {old new : Cache L} → IsErr result
+      → Performs g (Reads read Read) old new → Performs g (Reads result Is) old new
+  first-fails {Read = Read} {Is = Is} {read = read} {result = result} {old = old} {new = new} failed h = reads-fail g Is result old new failed (reads-quiet g Read read old new h)
+
+  module _ {Was : List Content → Type 0} {old mid : Cache L} (so_far : Performs g (On Was) old mid) where
+    -- a further look tells of what is read
+    pub read-on : {T E : Type 0} {Read : List Content → T → Type 0} {Is : List Content → Type 0} {found : T} {new : Cache L} → ((pages : List Content) → Was pages → Read pages found → Is pages)
+        → Performs g (Reads {E = E} (Ok found) Read) mid new → Performs g (On Is) old new
+    read-on {Read = Read} {Is = Is} {found = found} {new = new} both next = on-then g Was (λ pages. Read pages found) Is old mid new both so_far (read-first next)
+
+    -- a further look fails
+    pub read-fails : {T U E F : Type 0} {Read : List Content → T → Type 0} {Is : List Content → U → Type 0} {read : Result T E} {result : Result U F} {new : Cache L} → IsErr result
+        → Performs g (Reads read Read) mid new → Performs g (Reads result Is) old new
+    read-fails {Read = Read} {Is = Is} {read = read} {result = result} {new = new} failed next = reads-fail g Is result old new failed (on-quiet g Was old mid new so_far (reads-quiet g Read read mid new next))
+
+    -- what a further look tells is so too
+    pub read-also : {T E : Type 0} {Read : List Content → T → Type 0} {found : T} {new : Cache L} → Performs g (Reads {E = E} (Ok found) Read) mid new
+        → Performs g (On (λ pages. Was pages × Read pages found)) old new
+    read-also next = read-on (λ pages was read. (was, read)) next
+
+    -- a further look tells the answer
+    pub read-done : {T U E F : Type 0} {Read : List Content → T → Type 0} {Is : List Content → U → Type 0} {found : T} {answer : U} {new : Cache L}
+        → ((pages : List Content) → Was pages → Read pages found → Is pages answer) → Performs g (Reads {E = E} (Ok found) Read) mid new → Performs g (Reads {E = F} (Ok answer) Is) old new
+    read-done {Is = Is} {answer = answer} {new = new} both next = reads-ok g Is old new answer (read-on both next)
+
+    -- what a further look answers says more with what was seen
+    pub read-then : {T E : Type 0} {Read Is : List Content → T → Type 0} {result : Result T E} {new : Cache L} → ((pages : List Content) → Was pages → (answer : T) → Read pages answer → Is pages answer)
+        → Performs g (Reads result Read) mid new → Performs g (Reads result Is) old new
+    read-then {result = Ok answer} both next = read-done (λ pages was read. both pages was answer read) next
+    read-then {result = Err e} both next = read-fails refl next
+
+    -- what was seen is the answer
+    pub read-ends : {T E : Type 0} {Is : List Content → T → Type 0} {answer : T} → ((pages : List Content) → Was pages → Is pages answer) → Performs g (Reads {E = E} (Ok answer) Is) old mid
+    read-ends {Is = Is} {answer = answer} into = reads-ok g Is old mid answer (on-weaker g Was (λ pages. Is pages answer) old mid into so_far)
+
+    -- it goes on for too long
+    pub read-lost : {T E : Type 0} {Is : List Content → T → Type 0} {e : E} → Performs g (Reads (Err e) Is) old mid
+    read-lost {Is = Is} {e = e} = reads-err g Is old mid e (on-any g Was old mid so_far)
 
 -- ---- turns of a search
 
@@ -70,29 +92,20 @@ module _ {L : Type 0} (g : Ghosts L) (root at : ℕ) (old mid new : Cache L) (tu
   module _ (key : Bytes) (so_far : Performs g (On (λ pages. Leads pages key root at)) old mid)
       (seen : Performs g (Reads {E = Error} (Ok turn) (λ pages turn. HasNodeAt pages at (Routes key turn))) mid new) where
     pub turn-on : (page : ℕ) → (turn ≡ Down page) ⊎ (turn ≡ Right page) → Performs g (On (λ pages. Leads pages key root page)) old new
-    turn-on page is = goes-on g key root at page old mid new so_far
-        (on-weaker g (λ pages. HasNodeAt pages at (Routes key turn)) (λ pages. HasNodeAt pages at (λ n. LeadsTo n key page)) mid new (λ pages x. (x.0, x.1, routes-on key x.0 turn page x.2 is))
-        (reads-so g (λ pages turn. HasNodeAt pages at (Routes key turn)) mid new turn seen))
+    turn-on page is = read-on g so_far (λ pages a b. (suc a.0, goes-then pages key a.0 root at page a.1 (b.0, b.1, routes-on key b.0 turn page b.2 is))) seen
 
     pub turn-here : turn ≡ Here → Performs g (Reads {E = Error} (Ok at) (λ pages leaf. ComesToLeafOf pages key key leaf root)) old new
-    turn-here is = reads-ok g (λ pages leaf. ComesToLeafOf pages key key leaf root) old new at
-        (on-then g (λ pages. Leads pages key root at) (λ pages. HasNodeAt pages at (Routes key turn)) (λ pages. ComesToLeafOf pages key key at root) old mid new
+    turn-here is = read-done g so_far
         (λ pages a b. let leaf : IsLeafOf key b.0 = subst (λ (t : Turn). Routes key t b.0) is b.2 in
-        goes-finds pages key (λ pid n. (pid ≡ at) × IsInRange n key) a.0 root at a.1 (b.0, b.1, (leaf, (refl, leaf.1)))) so_far
-        (reads-so g (λ pages turn. HasNodeAt pages at (Routes key turn)) mid new turn seen))
+        goes-finds pages key (λ pid n. (pid ≡ at) × IsInRange n key) a.0 root at a.1 (b.0, b.1, (leaf, (refl, leaf.1)))) seen
 
   module _ (bound : Bound Bytes) (so_far : Performs g (On (LedBefore root bound at)) old mid)
       (seen : Performs g (Reads {E = Error} (Ok turn) (λ pages turn. HasNodeAt pages at (RoutesBefore bound turn))) mid new) where
     pub turn-on-before : (page : ℕ) → (turn ≡ Down page) ⊎ (turn ≡ Right page) → Performs g (On (LedBefore root bound page)) old new
-    turn-on-before page is = on-then g (LedBefore root bound at) (λ pages. HasNodeAt pages at (RoutesBefore bound turn)) (LedBefore root bound page) old mid new
-        (λ pages a b. (suc a.0, before-then pages bound a.0 root at page a.1 (b.0, b.1, routes-before bound b.0 turn page b.2 is))) so_far
-        (reads-so g (λ pages turn. HasNodeAt pages at (RoutesBefore bound turn)) mid new turn seen)
+    turn-on-before page is = read-on g so_far (λ pages a b. (suc a.0, before-then pages bound a.0 root at page a.1 (b.0, b.1, routes-before bound b.0 turn page b.2 is))) seen
 
     pub turn-here-before : turn ≡ Here → Performs g (Reads {E = Error} (Ok at) (λ pages leaf. ComesBefore pages root bound leaf)) old new
-    turn-here-before is = reads-ok g (λ pages leaf. ComesBefore pages root bound leaf) old new at
-        (on-then g (LedBefore root bound at) (λ pages. HasNodeAt pages at (RoutesBefore bound turn)) (λ pages. ComesBefore pages root bound at) old mid new
-        (λ pages a b. (a.0, a.1, (b.0, b.1, subst (λ (t : Turn). RoutesBefore bound t b.0) is b.2))) so_far
-        (reads-so g (λ pages turn. HasNodeAt pages at (RoutesBefore bound turn)) mid new turn seen))
+    turn-here-before is = read-done g so_far (λ pages a b. (a.0, a.1, (b.0, b.1, subst (λ (t : Turn). RoutesBefore bound t b.0) is b.2))) seen
 
 pub begins-before : {L : Type 0} (g : Ghosts L) (root : ℕ) (bound : Bound Bytes) (c : Cache L) → Performs g (On (LedBefore root bound root)) c c
 begins-before g root bound c = on-weaker g (λ _. Unit {0}) (LedBefore root bound root) c c (λ pages _. (zero, refl)) (nothing g c)

@@ -1,6 +1,6 @@
 -- Calls of the cache one after another, and what one of them does.
-use Rattle.std.proofs.Common.{◌≡◌, inl, ℕ, true, List, [], ◌∷◌, ◌++◌, nat_lt, Option, Some, Result, Ok, Err, slice_get, slice_set, refl, sym, ◌∙◌, ap, subst}
-use Rattle.std.specs.Prelude.{MatchBool, IfOk, IsOk, IsErr, ⊤}
+use Rattle.std.proofs.Common.{◌≡◌, inl, ℕ, true, List, [], ◌∷◌, ◌++◌, nat_lt, Option, None, Some, Result, Ok, Err, slice_get, slice_set, refl, sym, ◌∙◌, ap, subst}
+use Rattle.std.specs.Prelude.{MatchBool, IfOk, IfSome, IsOk, IsErr, ⊤}
 use Rattle.std.proofs.lemmas.Bool.{false≢true}
 use Rattle.std.proofs.lemmas.Grind.{flat_map-append}
 use Rattle.std.proofs.lemmas.List.{append-nil}
@@ -12,8 +12,9 @@ use Rattle.sled_log.specs.declared.log.Log.{Ghosts}
 use Rattle.sled_node.specs.Links.{applied}
 use Rattle.sled_node.specs.Node.{WholeNode}
 use Rattle.sled_node.specs.declared.node.link.Link.{Link as NodeLink}
+use Rattle.sled_pagecache.specs.Answers.{Keeps, stamps_with}
 use Rattle.sled_pagecache.specs.Cache.{Cache, chain_length}
-use Rattle.sled_pagecache.specs.Calls.{HasNoRoom, HasNoRoomAgain, IsBehind, StepOver}
+use Rattle.sled_pagecache.specs.Calls.{HasNoRoom, HasNoRoomAgain, IsBehind, IsBlamed, StepOver, Steps}
 use Rattle.sled_pagecache.specs.Due.{due_in}
 use Rattle.sled_pagecache.specs.Lending.{IsGot, lent_answer}
 use Rattle.sled_pagecache.specs.Limits.{most_messages}
@@ -41,8 +42,10 @@ abbrev pub Then : Deed → Deed → Deed
 Then First Later s events t = (mid : State) × (first : List (Event Update)) × (later : List (Event Update)) × (events ≡ first ++ later) × First s first mid × Later mid later t
 
 -- nothing is done, and this is so of the pages
-abbrev pub On : (List Content → Type 0) → Deed
-On P s events t = (events ≡ []) × (t ≡ s) × P (contents_of s)
+pub record On (P : List Content → Type 0) (s : State) (events : List (Event Update)) (t : State) : Type 0 where
+  pub none : events ≡ []
+  pub same : t ≡ s
+  pub is : P (contents_of s)
 
 -- nothing is written, and no page changes
 abbrev pub Quiet : Deed
@@ -53,8 +56,12 @@ abbrev pub Stuck : Deed
 Stuck s events t = s.fault ≡ true → (events ≡ []) × (t ≡ s)
 
 -- The node is put on a page that had none; or the call is refused.
-abbrev pub Allots : {E : Type 0} → WholeNode → Result (ℕ × Token) E → Deed
-Allots node result s events t = Stuck s events t × ((pid : ℕ) × Adds (contents_of s) pid × Ends result s (contents_with (contents_of s) pid (Put (Node node))) events t × IfOk result (λ made. made.0 ≡ pid))
+pub record Allots {E : Type 0} (node : WholeNode) (result : Result (ℕ × Token) E) (s : State) (events : List (Event Update)) (t : State) : Type 0 where
+  pub stuck : Stuck s events t
+  pub pid : ℕ
+  pub adds : Adds (contents_of s) pid
+  pub ends : Ends result s (contents_with (contents_of s) pid (Put (Node node))) events t
+  pub is : IfOk result (λ made. made.0 ≡ pid)
 
 module _ {L : Type 0} (g : Ghosts L) where
   -- ---- calls one after another
@@ -95,13 +102,17 @@ module _ {L : Type 0} (g : Ghosts L) where
   unfoldable pub weaker : (Is Also : Deed) (old new : Cache L) → ((s t : State) (events : List (Event Update)) → Is s events t → Also s events t) → Performs g Is old new → Performs g Also old new
   weaker Is Also old new into h = record { calls = h.calls; made = h.made; so = λ s t outs runs. into s t (changes_of outs) (h.so s t outs runs) }
 
+  -- the same from the cache by another name
+  pub from-same : {Is : Deed} {old same new : Cache L} → old ≡ same → Performs g Is old new → Performs g Is same new
+  from-same {Is = Is} {new = new} e h = subst (λ (c : Cache L). Performs g Is c new) e h
+
   -- ---- no call, and one
 
   pub nothing : (c : Cache L) → Performs g (On (λ _. ⊤)) c c
   nothing c = record { calls = []; made = refl; so = by }
     where
       by : (s t : State) (outs : List Outcome) → Runs g s [] outs t → On (λ _. ⊤) s (changes_of outs) t
-      by s t [] is = (refl, is, tt)
+      by s t [] is = record { none = refl; same = is; is = tt }
       by s t (out ∷ outs) runs = absurd runs
 
   abbrev pub Answers : Call → Answer → Deed
@@ -135,37 +146,69 @@ module _ {L : Type 0} (g : Ghosts L) where
       by : (s t : State) (events : List (Event Update)) → Answers (call.Get pid) (Got (Ok (Some (view.token, view.node.now)))) s events t → On (λ pages. slice_get pages pid ≡ Some (Node view.node.now)) s events t
       by s t events (cache, out, step, is, then_is) =
           let it = found s pid view.token view.node.now out step in
-          (is ∙ ap (λ (o : Outcome). o.changes) it.same, then_is ∙ ap (λ (o : Outcome). o.state) it.same, it.there)
+          record { none = is ∙ ap (λ (o : Outcome). o.changes) it.same; same = then_is ∙ ap (λ (o : Outcome). o.state) it.same; is = it.there }
 
   -- ---- what was read
 
   module _ {T E : Type 0} (Is : List Content → T → Type 0) where
     pub reads-ok : (old new : Cache L) (answer : T) → Performs g (On (λ pages. Is pages answer)) old new → Performs g (Reads {E = E} (Ok answer) Is) old new
-    reads-ok old new answer h = weaker (On (λ pages. Is pages answer)) (Reads {E = E} (Ok answer) Is) old new (λ s t events is. record { none = is.0; same = ap contents_of is.1; stuck = λ _. is.1; is = (is.1, is.2) }) h
+    reads-ok old new answer h = weaker (On (λ pages. Is pages answer)) (Reads {E = E} (Ok answer) Is) old new (λ s t events is. record { none = is.none; same = ap contents_of is.same; stuck = λ _. is.same; is = (is.same, is.is) }) h
 
     pub reads-err : (old new : Cache L) (e : E) → Performs g Quiet old new → Performs g (Reads {T = T} (Err e) Is) old new
     reads-err old new e h = weaker Quiet (Reads {T = T} (Err e) Is) old new (λ s t events is. record { none = is.0; same = is.1; stuck = is.2; is = tt }) h
 
     pub reads-so : (old new : Cache L) (answer : T) → Performs g (Reads {E = E} (Ok answer) Is) old new → Performs g (On (λ pages. Is pages answer)) old new
-    reads-so old new answer h = weaker (Reads {E = E} (Ok answer) Is) (On (λ pages. Is pages answer)) old new (λ s t events is. (is.none, is.is.0, is.is.1)) h
+    reads-so old new answer h = weaker (Reads {E = E} (Ok answer) Is) (On (λ pages. Is pages answer)) old new (λ s t events is. record { none = is.none; same = is.is.0; is = is.is.1 }) h
 
   pub reads-quiet : {T E : Type 0} (Is : List Content → T → Type 0) (result : Result T E) (old new : Cache L) → Performs g (Reads result Is) old new → Performs g Quiet old new
   reads-quiet Is result old new h = weaker (Reads result Is) Quiet old new (λ s t events is. (is.none, is.same, is.stuck)) h
 
   pub on-weaker : (P Q : List Content → Type 0) (old new : Cache L) → ((pages : List Content) → P pages → Q pages) → Performs g (On P) old new → Performs g (On Q) old new
-  on-weaker P Q old new into h = weaker (On P) (On Q) old new (λ s t events is. (is.0, is.1, into (contents_of s) is.2)) h
+  on-weaker P Q old new into h = weaker (On P) (On Q) old new (λ s t events is. record { none = is.none; same = is.same; is = into (contents_of s) is.is }) h
 
-  -- what a function of the node answers is so of the page that was found
-  pub of-page : {T E : Type 0} (Is : List Content → T → Type 0) (Said : T → Type 0) (old new : Cache L) (pid : ℕ) (view : NodeView) → IsGot g old pid (Ok (Some view)) new
-      → ((pages : List Content) → slice_get pages pid ≡ Some (Node view.node.now) → (answer : T) → Said answer → Is pages answer) → (result : Result T E) → IfOk result Said → Performs g (Reads result Is) old new
-  of-page Is Said old new pid view got into (Ok answer) is =
-      reads-ok Is old new answer (on-weaker (λ pages. slice_get pages pid ≡ Some (Node view.node.now)) (λ pages. Is pages answer) old new (λ pages there. into pages there answer is) (got-node old new pid view got))
-  of-page Is Said old new pid view got into (Err e) is = reads-err Is old new e (got-any old new pid (Ok (Some view)) got)
+  -- what was read says more, and an error would be of another kind
+  pub reads-as : {T E F : Type 0} {Was Is : List Content → T → Type 0} {answer : T} {old new : Cache L} → ((pages : List Content) → Was pages answer → Is pages answer)
+      → Performs g (Reads {E = E} (Ok answer) Was) old new → Performs g (Reads {E = F} (Ok answer) Is) old new
+  reads-as {Was = Was} {Is = Is} {answer = answer} {old = old} {new = new} into h =
+      reads-ok Is old new answer (on-weaker (λ pages. Was pages answer) (λ pages. Is pages answer) old new into (reads-so Was old new answer h))
 
-  pub of-node : {T E : Type 0} (Is : WholeNode → T → Type 0) (old new : Cache L) (pid : ℕ) (view : NodeView) → IsGot g old pid (Ok (Some view)) new → (n : WholeNode) → n ≡ view.node.now → (result : Result T E) → IfOk result (Is n)
-      → Performs g (Reads result (λ pages answer. HasNodeAt pages pid (λ k. Is k answer))) old new
-  of-node Is old new pid view got n same result is =
-      of-page (λ pages answer. HasNodeAt pages pid (λ k. Is k answer)) (Is n) old new pid view got (λ pages there answer said. (view.node.now, there, subst (λ (k : WholeNode). Is k answer) same said)) result is
+  -- ---- looking at a page
+
+  module _ {old new : Cache L} {pid : ℕ} {found : Result (Option NodeView) Refusal} (got : IsGot g old pid found new) where
+    -- a page with no node, or one that was refused: nothing is said of it
+    pub looks-err : {T E : Type 0} {Is : List Content → T → Type 0} {e : E} → Performs g (Reads (Err e) Is) old new
+    looks-err {Is = Is} {e = e} = reads-err Is old new e (got-any old new pid found got)
+
+    -- a page with a node
+    module _ {seen : Option NodeView} {view : NodeView} (answered : found ≡ Ok seen) (some : seen ≡ Some view) where
+      got-view : IsGot g old pid (Ok (Some view)) new
+      got-view = subst (λ (o : Option NodeView). IsGot g old pid (Ok o) new) some (subst (λ (r : Result (Option NodeView) Refusal). IsGot g old pid r new) answered got)
+
+      -- the token is that of the page
+      pub looks-token : {token : Token} → token ≡ view.token → token.pid ≡ pid
+      looks-token same = ap (λ (t : Token). t.pid) same ∙ got-view.token
+
+      module _ {n : WholeNode} (same : n ≡ view.node.now) where
+        -- what a function of the node answers is so of the page
+        pub looks : {T E : Type 0} {Is : List Content → T → Type 0} {Said : T → Type 0} {result : Result T E}
+            → ((pages : List Content) → slice_get pages pid ≡ Some (Node n) → (answer : T) → Said answer → Is pages answer) → IfOk result Said → Performs g (Reads result Is) old new
+        looks {Is = Is} {result = Ok answer} into said = reads-ok Is old new answer
+            (on-weaker (λ pages. slice_get pages pid ≡ Some (Node view.node.now)) (λ pages. Is pages answer) old new
+            (λ pages there. into pages (there ∙ ap (λ (k : WholeNode). Some (Node k)) (sym same)) answer said) (got-node old new pid view got-view))
+        looks {result = Err e} into said = looks-err
+
+        -- what is so of the node alone
+        pub looks-at : {T E : Type 0} {Is : WholeNode → T → Type 0} {result : Result T E} → IfOk result (Is n) → Performs g (Reads result (λ pages answer. HasNodeAt pages pid (λ k. Is k answer))) old new
+        looks-at {Is = Is} said = looks {Said = Is n} (λ pages there answer is. (n, there, is)) said
+
+        -- the same of an answer that may be none
+        pub looks-for : {T E : Type 0} {Is : T → WholeNode → Type 0} {result : Result (Option T) E} → IfOk result (λ made. IfSome made (λ it. Is it n))
+            → Performs g (Reads result (λ pages made. IfSome made (λ it. HasNodeAt pages pid (Is it)))) old new
+        looks-for {T} {Is = Is} said = looks {Said = λ made. IfSome made (λ it. Is it n)} (λ pages there made is. by pages there made is) said
+          where
+            by : (pages : List Content) → slice_get pages pid ≡ Some (Node n) → (made : Option T) → IfSome made (λ it. Is it n) → IfSome made (λ it. HasNodeAt pages pid (Is it))
+            by pages there None is = tt
+            by pages there (Some it) is = (n, there, is)
 
   -- an error, wherever it comes from
   pub reads-fail : {T E : Type 0} (Is : List Content → T → Type 0) (result : Result T E) (old new : Cache L) → IsErr result → Performs g Quiet old new → Performs g (Reads result Is) old new
@@ -177,24 +220,24 @@ module _ {L : Type 0} (g : Ghosts L) where
   on-then P Q R old mid new both first later = weaker (Then (On P) (On Q)) (On R) old new by (then (On P) (On Q) old mid new first later)
     where
       by : (s t : State) (events : List (Event Update)) → Then (On P) (On Q) s events t → On R s events t
-      by s t events (middle, before, behind, is, p, q) = (
-        is ∙ ap (λ (es : List (Event Update)). es ++ behind) p.0 ∙ q.0,
-        q.1 ∙ p.1,
-        both (contents_of s) p.2 (subst (λ (u : State). Q (contents_of u)) p.1 q.2),
-      )
+      by s t events (middle, before, behind, is, p, q) = record {
+        none = is ∙ ap (λ (es : List (Event Update)). es ++ behind) p.none ∙ q.none;
+        same = q.same ∙ p.same;
+        is = both (contents_of s) p.is (subst (λ (u : State). Q (contents_of u)) p.same q.is);
+      }
 
   pub on-quiet : (P : List Content → Type 0) (old mid new : Cache L) → Performs g (On P) old mid → Performs g Quiet mid new → Performs g Quiet old new
   on-quiet P old mid new first later = weaker (Then (On P) Quiet) Quiet old new by (then (On P) Quiet old mid new first later)
     where
       by : (s t : State) (events : List (Event Update)) → Then (On P) Quiet s events t → Quiet s events t
       by s t events (middle, before, behind, is, p, q) = (
-        is ∙ ap (λ (es : List (Event Update)). es ++ behind) p.0 ∙ q.0,
-        q.1 ∙ ap contents_of p.1,
-        λ kept. q.2 (subst (λ (u : State). u.fault ≡ true) (sym p.1) kept) ∙ p.1,
+        is ∙ ap (λ (es : List (Event Update)). es ++ behind) p.none ∙ q.0,
+        q.1 ∙ ap contents_of p.same,
+        λ kept. q.2 (subst (λ (u : State). u.fault ≡ true) (sym p.same) kept) ∙ p.same,
       )
 
   pub on-any : (P : List Content → Type 0) (old new : Cache L) → Performs g (On P) old new → Performs g Quiet old new
-  on-any P old new h = weaker (On P) Quiet old new (λ s t events is. (is.0, ap contents_of is.1, λ _. is.1)) h
+  on-any P old new h = weaker (On P) Quiet old new (λ s t events is. (is.none, ap contents_of is.same, λ _. is.same)) h
 
   -- ---- writing
 
@@ -253,18 +296,23 @@ module _ {L : Type 0} (g : Ghosts L) where
   allotted old new node answer made = weaker (Answers (call.Allocate node) (Allocated answer)) (Allots node answer) old new by (one old new (call.Allocate node) (Allocated answer) made)
     where
       by : (s t : State) (events : List (Event Update)) → Answers (call.Allocate node) (Allocated answer) s events t → Allots node answer s events t
-      by s t events (cache, out, step, is, then_is) = (
-        λ kept.
-            let same : out ≡ no_change s = split s.fault step (λ _ h. h.1) (λ clear h. absurd (false≢true (sym clear ∙ kept))) in
-            (is ∙ ap (λ (o : Outcome). o.changes) same, then_is ∙ ap (λ (o : Outcome). o.state) same),
-        let it = allocates s out node (chain_length g.state cache) (HasNoRoom g cache.log) answer step in (
-          it.0,
-          it.1,
-          subst (λ (es : List (Event Update)). Ends answer s (contents_with (contents_of s) it.0 (Put (Node node))) es t) (sym is)
-              (subst (λ (u : State). Ends answer s (contents_with (contents_of s) it.0 (Put (Node node))) out.changes u) (sym then_is) it.2),
-          it.3,
-        ),
-      )
+      by s t events (cache, out, step, is, then_is) =
+          let it = allocates s out node (chain_length g.state cache) (HasNoRoom g cache.log) answer step in
+          record {
+            stuck = λ kept.
+                let same : out ≡ no_change s = split s.fault step (λ _ h. h.1) (λ clear h. absurd (false≢true (sym clear ∙ kept))) in
+                (is ∙ ap (λ (o : Outcome). o.changes) same, then_is ∙ ap (λ (o : Outcome). o.state) same);
+            pid = it.0;
+            adds = it.1;
+            ends = subst (λ (es : List (Event Update)). Ends answer s (contents_with (contents_of s) it.0 (Put (Node node))) es t) (sym is)
+                (subst (λ (u : State). Ends answer s (contents_with (contents_of s) it.0 (Put (Node node))) out.changes u) (sym then_is) it.2);
+            is = it.3;
+          }
+
+  -- the same from what the call says
+  pub allocated : (node : WholeNode) {answer : Result (ℕ × Token) Error} {old new : Cache L} → Steps g old (call.Allocate node) (Allocated answer) new → IsBlamed g old new answer
+      → Keeps old new answer (λ made. stamps_with old.stamps made.1) → Performs g (Allots node answer) old new
+  allocated node {answer} {old} {new} step blame keeps = allotted old new node answer (record { step = step; bytes = tt; faults = blame; covered = tt; keeps = keeps })
 
   -- ---- what a swap answers, as an answer of a map
 

@@ -45,4 +45,5 @@ module _ {L : Type 0} (g : Ghosts L) {T E : Type 0} (token : Token) (pid : ℕ) 
 -- nothing is put
 pub put-none : {L : Type 0} (g : Ghosts L) {T E : Type 0} (pid : ℕ) (node : WholeNode) (result : Result T E) (c : Cache L) → IsErr result → Performs g (Puts pid node result) c c
 put-none g pid node (Ok answer) c failed = absurd (false≢true failed)
-put-none g {T} {E} pid node (Err e) c failed = weaker g (On (λ _. ⊤)) (Puts pid node (Err e)) c c (λ s t events is. record { stuck = λ _. (is.0, is.1); ends = (ap contents_of is.1, inl is.0) }) (nothing g c)
+put-none g {T} {E} pid node (Err e) c failed =
+    weaker g (On (λ _. ⊤)) (Puts pid node (Err e)) c c (λ s t events is. record { stuck = λ _. (is.none, is.same); ends = (ap contents_of is.same, inl is.none) }) (nothing g c)

@@ -9,7 +9,6 @@ use Rattle.sled_log.specs.Events.{Event}
 use Rattle.sled_log.specs.declared.log.Log.{Ghosts}
 use Rattle.sled_pagecache.specs.Cache.{Cache}
 use Rattle.sled_pagecache.specs.State.{State, contents_of}
-use Rattle.sled_search.specs.Maps.{HasTree}
 use Rattle.sled_tree.specs.Changed.{Reads}
 use Rattle.sled_tree.specs.Maps.{Keeps}
 use Rattle.sled_tree.specs.Performs.{Performs}
@@ -17,18 +16,18 @@ use Rattle.sled_tree.specs.Walks.{HasRoot, IsMet, IsPlaceOf, LeadsBy, MakesRoom,
 use Rattle.sled_tree.specs.declared.place.Met.{Met}
 use Rattle.sled_tree.specs.declared.place.Met.TheVariants as met
 use Rattle.sled_tree.specs.declared.place.Place.{Place}
-use Rattle.sled_tree.proofs.Keeping.{keeps-and, keeps-quiet, kept-keeps, on-deed, quiet-keeps}
-use Rattle.sled_tree.proofs.Performing.{On, Then, reads-quiet, reads-so, then, weaker}
+use Rattle.sled_tree.proofs.Keeping.{keeps-and, kept-keeps, on-deed, quiet-keeps, reads-keep}
+use Rattle.sled_tree.proofs.Performing.{On, Then, reads-so, then, weaker}
 
 module _ {L : Type 0} (g : Ghosts L) (root : ℕ) (key : Bytes) where
   -- a search more leaves the maps
   pub searched : {E : Type 0} (found : Result Met E) (old mid new : Cache L) → Performs g (Keeps (HasRoot root)) old mid → Performs g (Reads found (λ pages m. Meets pages root key m)) mid new → Performs g (Keeps (HasRoot root)) old new
-  searched found old mid new first later = keeps-and g (λ w. HasTree w.maps root) old mid new first (keeps-quiet g (HasRoot root) mid new (reads-quiet g (λ pages m. Meets pages root key m) found mid new later))
+  searched found old mid new first later = keeps-and g first (reads-keep g later)
 
   -- and so does the room that is made where it met none
   pub made-room : (above page : ℕ) (found : Met) (old mid seen new : Cache L) → (found ≡ met.Full above page) ⊎ (found ≡ met.Unled above page)
       → Performs g (Keeps (HasRoot root)) old mid → Performs g (Reads {E = Error} (Ok found) (λ pages m. Meets pages root key m)) mid seen → Performs g (Keeps (IsMet above page)) seen new → Performs g (Keeps (HasRoot root)) old new
-  made-room above page found old mid seen new is first search later = keeps-and g (λ w. HasTree w.maps root) old mid new first (behind (led is))
+  made-room above page found old mid seen new is first search later = keeps-and g first (behind (led is))
     where
       of : (m : Met) → found ≡ m → Performs g (On (λ pages. Meets pages root key m)) mid seen
       of m same = subst (λ (m : Met). Performs g (On (λ pages. Meets pages root key m)) mid seen) same (reads-so g (λ pages m. Meets pages root key m) mid seen found search)
@@ -38,7 +37,7 @@ module _ {L : Type 0} (g : Ghosts L) (root : ℕ) (key : Bytes) where
       led (inr same) = of (met.Unled above page) same
 
       behind : Performs g (On (λ pages. LeadsBy pages key root above page)) mid seen → Performs g (Keeps (HasRoot root)) mid new
-      behind met_so = on-deed g (λ pages. LeadsBy pages key root above page) (Keeps (IsMet above page)) (Keeps (HasRoot root)) mid seen new
+      behind met_so = on-deed g
           (λ s t events leads keeps. record { follows = keeps.follows; stays = λ w are has. keeps.stays w are (record { root = root; has = has; key = key; leads = leads }) }) met_so later
 
   pub room-found : (place : Place) (old mid new : Cache L) → Performs g (Keeps (HasRoot root)) old mid → Performs g (Reads {E = Error} (Ok (met.Leaf place)) (λ pages m. Meets pages root key m)) mid new → Performs g (MakesRoom {E = Error} root key (Ok place)) old new
@@ -48,7 +47,7 @@ module _ {L : Type 0} (g : Ghosts L) (root : ℕ) (key : Bytes) where
       by : (s t : State) (events : List (Event Update)) → Then (Keeps (HasRoot root)) (Reads {E = Error} (Ok (met.Leaf place)) (λ pages m. Meets pages root key m)) s events t → MakesRoom {E = Error} root key (Ok place) s events t
       by s t events (middle, before, behind, is, a, b) = (
         subst (λ (es : List (Event Update)). Keeps (HasRoot root) s es t) (sym is)
-            (kept-keeps (HasRoot root) (HasRoot root) s middle t before behind (a, λ w are has. has) (quiet-keeps (HasRoot root) middle t behind (b.none, b.same, b.stuck))),
+            (kept-keeps (HasRoot root) (HasRoot root) s middle t before behind (record { keeps = a; leaves = λ w are has. has }) (quiet-keeps (HasRoot root) middle t behind (b.none, b.same, b.stuck))),
         subst (λ (u : State). IsPlaceOf (contents_of u) root key place) (sym b.is.0) b.is.1,
       )
 

@@ -1,5 +1,5 @@
 -- The steps in which a node is split leave the maps.
-use Rattle.std.proofs.Common.{◌≡◌, ℕ, List, [], ◌∷◌, Some, Result, Ok, slice_get, slice_set, refl, sym, subst}
+use Rattle.std.proofs.Common.{◌≡◌, ℕ, List, [], ◌∷◌, Some, Result, Ok, slice_get, slice_set, refl, sym, ◌∙◌, ap, subst}
 use Rattle.std.proofs.lemmas.Option.{slice_get_within}
 use Rattle.sled_base.proofs.LinkedLists.Linking.{get_set_there}
 use Rattle.sled_base.specs.Order.{Bytes}
@@ -32,16 +32,16 @@ use Rattle.sled_tree.proofs.Reaching.{met-reached, met-stays, still-above}
 
 -- a node that is put on a new page leaves the maps, whether that was refused or not
 pub allot-keeps : (If : Fact) (node : WholeNode) (result : Result (ℕ × Token) Error) (s t : State) (events : List (Event Update)) → Allots node result s events t → Keeps If s events t
-allot-keeps If node result s t events (stuck, (pid, adds, ends, is)) = change-keeps If s t (added (contents_of s) pid adds node) events stuck result ends (λ w are so. added-named (contents_of s) pid adds node w are)
+allot-keeps If node result s t events allots = change-keeps If s t (added (contents_of s) allots.pid allots.adds node) events allots.stuck result allots.ends (λ w are so. added-named (contents_of s) allots.pid allots.adds node w are)
 
 -- and then this is so of the pages with it
 pub allot-made : (If Last : Fact) (node : WholeNode) (page : ℕ) (fresh : Token) → ((pages : List Content) (adds : Adds pages page) (w : Named) → AreNamed pages w → If pages w → Last (added pages page adds node) w)
     → (s t : State) (events : List (Event Update)) → Allots {E = Error} node (Ok (page, fresh)) s events t → Kept If Last s events t
-allot-made If Last node page fresh into s t events (stuck, (pid, adds, ends, is)) =
-    by (subst (λ (p : ℕ). Adds (contents_of s) p × Made s (contents_with (contents_of s) p (Put (Node node))) events t) (sym is) (adds, ends))
+allot-made If Last node page fresh into s t events allots =
+    by (subst (λ (p : ℕ). Adds (contents_of s) p × Made s (contents_with (contents_of s) p (Put (Node node))) events t) (sym allots.is) (allots.adds, allots.ends))
   where
     by : Adds (contents_of s) page × Made s (contents_with (contents_of s) page (Put (Node node))) events t → Kept If Last s events t
-    by (adds, made) = made-kept If s t (added (contents_of s) page adds node) events stuck Last made (λ w are so. (added-named (contents_of s) page adds node w are, into (contents_of s) adds w are so))
+    by (adds, made) = made-kept If s t (added (contents_of s) page adds node) events allots.stuck Last made (λ w are so. (added-named (contents_of s) page adds node w are, into (contents_of s) adds w are so))
 
 -- ---- a node in two parts
 
@@ -153,39 +153,47 @@ led-on above child at page made result s t events (n, there, led) puts =
 -- ---- the same of calls that were made
 
 -- the parts that were found
-pub parts-kept : {L : Type 0} (g : Ghosts L) (above child : ℕ) (parts : Parts) (old new : Cache L) → Performs g (Reads {E = Error} (Ok parts) (λ pages (parts : Parts). HasNodeAt pages child (λ n. AreParts n parts.left parts.right))) old new
+pub parts-kept : {L : Type 0} (g : Ghosts L) (above : ℕ) {child : ℕ} {parts : Parts} {old new : Cache L}
+    → Performs g (Reads {E = Error} (Ok parts) (λ pages (parts : Parts). HasNodeAt pages child (λ n. AreParts n parts.left parts.right))) old new
     → Performs g (Kept (IsMet above child) (IsParted above child parts.left parts.right)) old new
-parts-kept g above child parts old new h =
+parts-kept g above {child} {parts} {old} {new} h =
     kept-on g (IsMet above child) (IsParted above child parts.left parts.right) (HasParts child parts.left parts.right) old new (λ pages w has met. (met, has))
     (reads-so g (λ pages (parts : Parts). HasNodeAt pages child (λ n. AreParts n parts.left parts.right)) old new parts h)
 
-module _ {L : Type 0} (g : Ghosts L) (above child : ℕ) (l r : WholeNode) (old mid new : Cache L) where
-  pub allot-failed : (Mid : Fact) (node : WholeNode) (result : Result (ℕ × Token) Error) → Performs g (Kept (IsMet above child) Mid) old mid → Performs g (Allots node result) mid new → Performs g (Keeps (IsMet above child)) old new
-  allot-failed Mid node result so_far more = kept-last g (IsMet above child) Mid (Allots node result) old mid new (λ s t events made. allot-keeps Mid node result s t events made) so_far more
+module _ {L : Type 0} (g : Ghosts L) {above child : ℕ} {old mid new : Cache L} where
+  pub allot-failed : {Mid : Fact} {node : WholeNode} {result : Result (ℕ × Token) Error} → Performs g (Kept (IsMet above child) Mid) old mid → Performs g (Allots node result) mid new → Performs g (Keeps (IsMet above child)) old new
+  allot-failed {Mid} {node} {result} so_far more = kept-last g (IsMet above child) Mid (Allots node result) old mid new (λ s t events made. allot-keeps Mid node result s t events made) so_far more
 
-  pub allot-then : (sibling : ℕ) (fresh : Token) → Performs g (Kept (IsMet above child) (IsParted above child l r)) old mid → Performs g (Allots {E = Error} r (Ok (sibling, fresh))) mid new → Performs g (Kept (IsMet above child) (HasRight above child l r sibling)) old new
-  allot-then sibling fresh so_far more = kept-then g (IsMet above child) (IsParted above child l r) (HasRight above child l r sibling) (Allots {E = Error} r (Ok (sibling, fresh))) old mid new
-      (λ s t events made. allot-made (IsParted above child l r) (HasRight above child l r sibling) r sibling fresh (λ pages adds w are so. with-right above child l r sibling pages adds w are so) s t events made) so_far more
+  -- the index above leads to the right part at once, from the key at which that begins
+  pub lead-then : {low at : Bytes} {sibling : ℕ} → Performs g (Kept (IsMet above child) (IsCut above child low sibling)) old mid → at ≡ low → Performs g (Keeps (IsCut above child at sibling)) mid new
+      → Performs g (Keeps (IsMet above child)) old new
+  lead-then {low} {sibling = sibling} so_far same more = kept-last g (IsMet above child) (IsCut above child low sibling) (Keeps (IsCut above child low sibling)) old mid new (λ s t events keeps. keeps) so_far
+      (subst (λ (key : Bytes). Performs g (Keeps (IsCut above child key sibling)) mid new) same more)
 
-  module _ (sibling : ℕ) where
-    pub put-left-then : {T : Type 0} (answer : T) → Performs g (Kept (IsMet above child) (HasRight above child l r sibling)) old mid → Performs g (Puts {E = Error} child (record l { next = Some sibling }) (Ok answer)) mid new
-        → Performs g (Kept (IsMet above child) (IsCut above child r.lo sibling)) old new
-    put-left-then answer so_far more = kept-then g (IsMet above child) (HasRight above child l r sibling) (IsCut above child r.lo sibling) (Puts {E = Error} child (record l { next = Some sibling }) (Ok answer)) old mid new
-        (λ s t events puts. put-left-made above child l r sibling answer s t events puts) so_far more
+  module _ {l r : WholeNode} {sibling : ℕ} where
+    pub allot-then : {fresh : Token} → Performs g (Kept (IsMet above child) (IsParted above child l r)) old mid → Performs g (Allots {E = Error} r (Ok (sibling, fresh))) mid new
+        → Performs g (Kept (IsMet above child) (HasRight above child l r sibling)) old new
+    allot-then {fresh} so_far more = kept-then g (IsMet above child) (IsParted above child l r) (HasRight above child l r sibling) (Allots {E = Error} r (Ok (sibling, fresh))) old mid new
+        (λ s t events made. allot-made (IsParted above child l r) (HasRight above child l r sibling) r sibling fresh (λ pages adds w are so. with-right above child l r sibling pages adds w are so) s t events made) so_far more
 
-    pub put-left-failed : {T : Type 0} (result : Result T Error) → Performs g (Kept (IsMet above child) (HasRight above child l r sibling)) old mid → Performs g (Puts child (record l { next = Some sibling }) result) mid new → Performs g (Keeps (IsMet above child)) old new
-    put-left-failed result so_far more = kept-last g (IsMet above child) (HasRight above child l r sibling) (Puts child (record l { next = Some sibling }) result) old mid new
-        (λ s t events puts. put-left-keeps above child l r sibling result s t events puts) so_far more
+    module _ (so_far : Performs g (Kept (IsMet above child) (HasRight above child l r sibling)) old mid) where
+      pub put-left-then : {T : Type 0} {answer : T} → Performs g (Puts {E = Error} child (record l { next = Some sibling }) (Ok answer)) mid new → Performs g (Kept (IsMet above child) (IsCut above child r.lo sibling)) old new
+      put-left-then {answer = answer} more = kept-then g (IsMet above child) (HasRight above child l r sibling) (IsCut above child r.lo sibling) (Puts {E = Error} child (record l { next = Some sibling }) (Ok answer)) old mid new
+          (λ s t events puts. put-left-made above child l r sibling answer s t events puts) so_far more
 
-    pub lead-then : Performs g (Kept (IsMet above child) (IsCut above child r.lo sibling)) old mid → Performs g (Keeps (IsCut above child r.lo sibling)) mid new → Performs g (Keeps (IsMet above child)) old new
-    lead-then so_far more = kept-last g (IsMet above child) (IsCut above child r.lo sibling) (Keeps (IsCut above child r.lo sibling)) old mid new (λ s t events keeps. keeps) so_far more
+      pub put-left-failed : {T : Type 0} {result : Result T Error} → Performs g (Puts child (record l { next = Some sibling }) result) mid new → Performs g (Keeps (IsMet above child)) old new
+      put-left-failed {result = result} more = kept-last g (IsMet above child) (HasRight above child l r sibling) (Puts child (record l { next = Some sibling }) result) old mid new
+          (λ s t events puts. put-left-keeps above child l r sibling result s t events puts) so_far more
 
-    pub allot-left-then : (first : ℕ) (fresh : Token) → Performs g (Kept (IsMet above child) (HasRight above child l r sibling)) old mid → Performs g (Allots {E = Error} (record l { next = Some sibling }) (Ok (first, fresh))) mid new
-        → Performs g (Kept (IsMet above child) (HasBoth above child l r sibling first)) old new
-    allot-left-then first fresh so_far more = kept-then g (IsMet above child) (HasRight above child l r sibling) (HasBoth above child l r sibling first) (Allots {E = Error} (record l { next = Some sibling }) (Ok (first, fresh))) old mid new
-        (λ s t events made. allot-made (HasRight above child l r sibling) (HasBoth above child l r sibling first) (record l { next = Some sibling }) first fresh (λ pages adds w are so. with-left above child l r sibling first pages adds w are so) s t events made) so_far more
+      pub allot-left-then : {left : WholeNode} {first : ℕ} {fresh : Token} → left ≡ record l { next = Some sibling } → Performs g (Allots {E = Error} left (Ok (first, fresh))) mid new
+          → Performs g (Kept (IsMet above child) (HasBoth above child l r sibling first)) old new
+      allot-left-then {first = first} {fresh = fresh} same more = kept-then g (IsMet above child) (HasRight above child l r sibling) (HasBoth above child l r sibling first) (Allots {E = Error} (record l { next = Some sibling }) (Ok (first, fresh))) old mid new
+          (λ s t events made. allot-made (HasRight above child l r sibling) (HasBoth above child l r sibling first) (record l { next = Some sibling }) first fresh (λ pages adds w are so. with-left above child l r sibling first pages adds w are so) s t events made) so_far
+          (subst (λ (n : WholeNode). Performs g (Allots {E = Error} n (Ok (first, fresh))) mid new) same more)
 
-    pub hoist-then : {T : Type 0} (first : ℕ) (result : Result T Error) → Performs g (Kept (IsMet above child) (HasBoth above child l r sibling first)) old mid → Performs g (Puts child (index_of (([], Child first) ∷ (r.lo, Child sibling) ∷ [])) result) mid new
-        → Performs g (Keeps (IsMet above child)) old new
-    hoist-then first result so_far more = kept-last g (IsMet above child) (HasBoth above child l r sibling first) (Puts child (index_of (([], Child first) ∷ (r.lo, Child sibling) ∷ [])) result) old mid new
-        (λ s t events puts. put-over-keeps above child l r sibling first result s t events puts) so_far more
+    -- the index over both parts
+    pub hoist-then : {T : Type 0} {first : ℕ} {result : Result T Error} {at : Bytes} {index : WholeNode} → Performs g (Kept (IsMet above child) (HasBoth above child l r sibling first)) old mid → at ≡ r.lo
+        → index ≡ index_of (([], Child first) ∷ (at, Child sibling) ∷ []) → Performs g (Puts child index result) mid new → Performs g (Keeps (IsMet above child)) old new
+    hoist-then {first = first} {result = result} so_far low is more = kept-last g (IsMet above child) (HasBoth above child l r sibling first) (Puts child (over_both above child l r sibling first) result) old mid new
+        (λ s t events puts. put-over-keeps above child l r sibling first result s t events puts) so_far
+        (subst (λ (n : WholeNode). Performs g (Puts child n result) mid new) (is ∙ ap (λ (key : Bytes). index_of (([], Child first) ∷ (key, Child sibling) ∷ [])) low) more)

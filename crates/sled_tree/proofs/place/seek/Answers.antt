@@ -1,13 +1,9 @@
-use Rattle.std.proofs.Common.{Ok, ℕ, sym, subst}
-use Rattle.std.specs.Prelude.{⊤}
-use Rattle.sled_base.specs.declared.types.Error.{Error}
-use Rattle.sled_search.specs.Search.{HasNodeAt, LeadsTo}
-use Rattle.sled_tree.specs.Changed.{Reads}
+use Rattle.std.proofs.Common.{ℕ, sym, subst}
+use Rattle.sled_search.specs.Search.{HasNodeAt}
 use Rattle.sled_tree.specs.Performs.{Performs}
-use Rattle.sled_tree.specs.Walks.{Leads, LeadsBy, Tells, Meets, HasPlace, IsPlaceIn, IsPlaceOf}
-use Rattle.sled_tree.specs.declared.place.Look.TheVariants as look
-use Rattle.sled_tree.specs.declared.place.Met.TheVariants as met
-use Rattle.sled_tree.proofs.Performing.{On, on-then, on-any, on-quiet, reads-ok, reads-err, reads-fail, reads-so, reads-quiet}
+use Rattle.sled_tree.specs.Walks.{Leads, LeadsBy, HasPlace}
+use Rattle.sled_tree.proofs.OrderedReads.{read-done, read-fails, read-first, read-lost}
+use Rattle.sled_tree.proofs.Performing.{On}
 use Rattle.sled_tree.proofs.Reaching.{leads-more}
 use Rattle.sled_tree.proofs.Walking.{seek-begins, seek-down, seek-right}
 use Rattle.sled_tree.proofs.place.seek.Goals.{in-Down, in-Right+else-reports}
@@ -20,36 +16,17 @@ pub returns-in-Here : goal.returns-in-Here
 returns-in-Here g c =
     let key = c.args.key.now in
     let root = c.args.root in
-    let above = c.turns.above in
-    let at = c.turns.at in
     let place = c.in-Here.place in
-    let seen : Performs g.L.Log (Reads {E = Error} (Ok (look.Here place)) (λ pages found. Tells pages key at found)) c.turns.cache c.look_at.new.cache = rw c.in-Here.is at c.in_ok-place.ensures in
-    reads-ok g.L.Log (λ pages found. Meets pages root key found) c.args.cache.now c.look_at.new.cache (met.Leaf place)
-    (on-then g.L.Log (λ pages. LeadsBy pages key root above at) (λ pages. IsPlaceIn pages key at place) (λ pages. IsPlaceOf pages root key place) c.args.cache.now c.turns.cache c.look_at.new.cache
-    (λ pages a b. record { leads = subst (λ (p : ℕ). Leads pages key root p) (sym b.leaf_is) (leads-more pages key root above at a.0 a.1); has = subst (λ (p : ℕ). HasNodeAt pages p (HasPlace key place.stored place.value)) (sym b.leaf_is) b.has }) c.turns.invariant
-    (reads-so g.L.Log (λ pages found. Tells pages key at found) c.turns.cache c.look_at.new.cache (look.Here place) seen))
+    read-done g.L.Log c.turns.invariant (λ pages a b. record {
+      leads = subst (λ (p : ℕ). Leads pages key root p) (sym b.leaf_is) (leads-more pages key root c.turns.above c.turns.at a.0 a.1);
+      has = subst (λ (p : ℕ). HasNodeAt pages p (HasPlace key place.stored place.value)) (sym b.leaf_is) b.has;
+    }) (rw c.in-Here.is at c.in_ok-place.ensures)
 
 pub returns-in-Full : goal.returns-in-Full
-returns-in-Full g c =
-    let key = c.args.key.now in
-    let root = c.args.root in
-    let above = c.turns.above in
-    let at = c.turns.at in
-    let seen : Performs g.L.Log (Reads {E = Error} (Ok look.Full) (λ pages found. Tells pages key at found)) c.turns.cache c.look_at.new.cache = rw c.in-Full.is at c.in_ok-place.ensures in
-    reads-ok g.L.Log (λ pages found. Meets pages root key found) c.args.cache.now c.look_at.new.cache (met.Full above at)
-    (on-then g.L.Log (λ pages. LeadsBy pages key root above at) (λ _. ⊤) (λ pages. LeadsBy pages key root above at) c.args.cache.now c.turns.cache c.look_at.new.cache (λ _ leads _. leads) c.turns.invariant
-    (reads-so g.L.Log (λ pages found. Tells pages key at found) c.turns.cache c.look_at.new.cache look.Full seen))
+returns-in-Full g c = read-done g.L.Log c.turns.invariant (λ _ leads _. leads) c.in_ok-place.ensures
 
 pub returns-then-reports : goal.returns-then-reports
-returns-then-reports g c =
-    let key = c.args.key.now in
-    let root = c.args.root in
-    let above = c.turns.above in
-    let at = c.turns.at in
-    let seen : Performs g.L.Log (Reads {E = Error} (Ok (look.Right c.in-Right.page)) (λ pages found. Tells pages key at found)) c.turns.cache c.look_at.new.cache = rw c.in-Right.is at c.in_ok-place.ensures in
-    reads-ok g.L.Log (λ pages found. Meets pages root key found) c.args.cache.now c.look_at.new.cache (met.Unled above at)
-    (on-then g.L.Log (λ pages. LeadsBy pages key root above at) (λ pages. HasNodeAt pages at (λ n. LeadsTo n key c.in-Right.page)) (λ pages. LeadsBy pages key root above at) c.args.cache.now c.turns.cache c.look_at.new.cache (λ _ leads _. leads) c.turns.invariant
-    (reads-so g.L.Log (λ pages found. Tells pages key at found) c.turns.cache c.look_at.new.cache (look.Right c.in-Right.page) seen))
+returns-then-reports g c = read-done g.L.Log c.turns.invariant (λ _ leads _. leads) c.in_ok-place.ensures
 
 pub turns-preserved : goal.turns-preserved
 turns-preserved g c =
@@ -62,27 +39,18 @@ turns-preserved g c =
     elim c.match-branch-2.branch [
       | in-Down w ↦
           let page = w.in-Down.page in
-          let seen : Performs g.L.Log (Reads {E = Error} (Ok (look.Down page)) (λ pages found. Tells pages key at found)) c.turns.cache new = rw w.in-Down.is at c.in_ok-place.ensures in
           subst (λ (p : ℕ). Performs g.L.Log (On (λ pages. LeadsBy pages key root c.match-branch-2.above p)) old new) (sym w.at-is)
           (subst (λ (p : ℕ). Performs g.L.Log (On (λ pages. LeadsBy pages key root p page)) old new) (sym w.above-is)
-          (seek-down g.L.Log key root above at page old c.turns.cache new c.turns.invariant (reads-so g.L.Log (λ pages found. Tells pages key at found) c.turns.cache new (look.Down page) seen)))
+          (seek-down g.L.Log key root above at page old c.turns.cache new c.turns.invariant (read-first g.L.Log (rw w.in-Down.is at c.in_ok-place.ensures))))
       | in-Right+else-reports w ↦
           let page = w.in-Right.page in
-          let seen : Performs g.L.Log (Reads {E = Error} (Ok (look.Right page)) (λ pages found. Tells pages key at found)) c.turns.cache new = rw w.in-Right.is at c.in_ok-place.ensures in
           subst (λ (p : ℕ). Performs g.L.Log (On (λ pages. LeadsBy pages key root c.match-branch-2.above p)) old new) (sym w.at-is)
           (subst (λ (p : ℕ). Performs g.L.Log (On (λ pages. LeadsBy pages key root p page)) old new) (sym w.above-is)
-          (seek-right g.L.Log key root above at page old c.turns.cache new c.turns.invariant (reads-so g.L.Log (λ pages found. Tells pages key at found) c.turns.cache new (look.Right page) seen)))
+          (seek-right g.L.Log key root above at page old c.turns.cache new c.turns.invariant (read-first g.L.Log (rw w.in-Right.is at c.in_ok-place.ensures))))
     ]
 
 pub returns-in_err-place : goal.returns-in_err-place
-returns-in_err-place g c =
-    let key = c.args.key.now in
-    let at = c.turns.at in
-    reads-fail g.L.Log (λ pages found. Meets pages c.args.root key found) c.from_residual.result c.args.cache.now c.look_at.new.cache c.from_residual.ensures.0
-    (on-quiet g.L.Log (λ pages. LeadsBy pages key c.args.root c.turns.above at) c.args.cache.now c.turns.cache c.look_at.new.cache c.turns.invariant
-    (reads-quiet g.L.Log (λ pages found. Tells pages key at found) c.look_at.result c.turns.cache c.look_at.new.cache c.look_at.ensures))
+returns-in_err-place g c = read-fails g.L.Log c.turns.invariant c.from_residual.ensures.0 c.look_at.ensures
 
 pub returns : goal.returns
-returns g c =
-    reads-err g.L.Log (λ pages found. Meets pages c.args.root c.args.key.now found) c.args.cache.now c.turns.cache _
-    (on-any g.L.Log (λ pages. LeadsBy pages c.args.key.now c.args.root c.turns.above c.turns.at) c.args.cache.now c.turns.cache c.turns.invariant)
+returns g c = read-lost g.L.Log c.turns.invariant

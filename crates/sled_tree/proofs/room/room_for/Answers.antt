@@ -1,5 +1,4 @@
 use Rattle.std.proofs.Common.{Ok, Err, None, inl, inr, refl, sym, subst}
-use Rattle.std.specs.Prelude.{⊤}
 use Rattle.sled_base.specs.declared.types.Error.{Error}
 use Rattle.sled_base.specs.declared.types.Error.TheVariants.{Corruption}
 use Rattle.sled_pagecache.specs.Cache.{Cache}
@@ -8,14 +7,13 @@ use Rattle.sled_tree.specs.Maps.{Keeps}
 use Rattle.sled_tree.specs.Performs.{Performs}
 use Rattle.sled_tree.specs.Walks.{HasRoot, Meets}
 use Rattle.sled_tree.specs.declared.place.Met.TheVariants as met
-use Rattle.sled_tree.proofs.Keeping.{keeps-quiet}
-use Rattle.sled_tree.proofs.Performing.{nothing, on-any}
+use Rattle.sled_tree.proofs.Keeping.{still-keeps}
 use Rattle.sled_tree.proofs.Rooming.{made-room, room-found, room-refused, searched}
 use Rattle.sled_tree.proofs.room.room_for.Goals.{in-Full+in_ok-make_room-in-Full, in-Unled+in_ok-lead_right-in-Unled}
 use Rattle.sled_tree.proofs.room.room_for.Goals as goal
 
 pub searches-init : goal.searches-init
-searches-init g c = keeps-quiet g.L.Log (HasRoot c.args.root) c.args.cache.now c.args.cache.now (on-any g.L.Log (λ _. ⊤) c.args.cache.now c.args.cache.now (nothing g.L.Log c.args.cache.now))
+searches-init g c = still-keeps g.L.Log
 
 pub returns-in-Leaf : goal.returns-in-Leaf
 returns-in-Leaf g c =

@@ -1,4 +1,4 @@
-use Rattle.std.proofs.Common.{◌∙◌, Some, Ok, Err}
+use Rattle.std.proofs.Common.{◌∙◌, Some, Err}
 use Rattle.std.specs.Option.{option_map}
 use Rattle.sled_base.specs.declared.types.Error.{Error}
 use Rattle.sled_tree.proofs.Changing.{inserted}
@@ -16,11 +16,11 @@ returns-in_err-set g c =
     let new = c.set.new.cache in
     let e = c.in_err-set.field-0.0 in
     swap-set-failed g.L.Log Error c.args.root c.args.key.now (option_map (λ old. old.now) c.args.old) old new c.args.value e c.from_residual-in_err-set.result c.from_residual-in_err-set.ensures.0
-    (inserted g.L.Log c.args.root c.args.key.now c.in_ok-place.place old c.room_for.new.cache new {E = Error} c.args.value (Err e) tt c.in_ok-place.ensures c.in_err-set.ensures.links)
+    (inserted g.L.Log {E = Error} {result = Err e} tt c.in_ok-place.ensures c.in_err-set.ensures.links)
 
 pub returns : goal.returns
 returns g c =
     let old = c.args.cache.now in
     let new = c.set.new.cache in
     swap-set g.L.Log Error c.args.root c.args.key.now (option_map (λ old. old.now) c.args.old) old new Error c.args.value c.in_ok-set.field-0 (c.in_ok-set.ensures.before ∙ c.is_value.ensures.same c.if-not-is_value.false)
-    (inserted g.L.Log c.args.root c.args.key.now c.in_ok-place.place old c.room_for.new.cache new {E = Error} c.args.value (Ok c.in_ok-set.field-0) c.in_ok-set.ensures.before c.in_ok-place.ensures c.in_ok-set.ensures.links)
+    (inserted g.L.Log {E = Error} c.in_ok-set.ensures.before c.in_ok-place.ensures c.in_ok-set.ensures.links)

@@ -21,7 +21,7 @@ returns-then-is_none g c =
     let new = c.place_for.new.cache in
     let none = none-of place.value (c.is_none.ensures ∙ ap not c.if-is_none.true) in
     swap-none g.L.Log Error c.args.root c.args.key.now (option_map (λ old. old.now) c.args.old) old new Error (sym (c.is_value.ensures.same c.if-not-is_value.false) ∙ none)
-    (absent g.L.Log c.args.root c.args.key.now place old new new Error none c.in_ok-place.ensures)
+    (absent g.L.Log Error none c.in_ok-place.ensures)
 
 pub returns-in_err-delete : goal.returns-in_err-delete
 returns-in_err-delete g c =
@@ -31,20 +31,19 @@ returns-in_err-delete g c =
     let e = c.in_err-delete.field-0.0 in
     let some = some-of place.value (c.is_none.ensures ∙ ap not c.if-is_none.false) in
     swap-take-failed g.L.Log Error c.args.root c.args.key.now (option_map (λ old. old.now) c.args.old) old new some.0 (sym (c.is_value.ensures.same c.if-not-is_value.false) ∙ some.1) e c.from_residual-in_err-delete.result c.from_residual-in_err-delete.ensures.0
-    (deleted g.L.Log c.args.root c.args.key.now place old c.place_for.new.cache new {E = Error} some.0 some.1 (Err e) tt c.in_ok-place.ensures c.in_err-delete.ensures.links)
+    (deleted g.L.Log {E = Error} {result = Err e} tt some.1 c.in_ok-place.ensures c.in_err-delete.ensures.links)
 
 pub returns : goal.returns
 returns g c =
-    let place = c.in_ok-place.place in
     let root = c.args.root in
     let key = c.args.key.now in
     let old = c.args.cache.now in
     let mid = c.delete.new.cache in
     let new = c.merge_few.new.cache in
-    let some = some-of place.value (c.is_none.ensures ∙ ap not c.if-is_none.false) in
+    let some = some-of c.in_ok-place.place.value (c.is_none.ensures ∙ ap not c.if-is_none.false) in
     let had : c.in_ok-delete.field-0 ≡ Some some.0 = c.in_ok-delete.ensures.before ∙ some.1 in
     let taken : Performs g.L.Log (ChangesMap root (TakesKey {E = Error} root key (Ok (Some some.0)))) old mid =
     subst (λ (o : Option Bytes). Performs g.L.Log (ChangesMap root (TakesKey {E = Error} root key (Ok o))) old mid) had
-    (deleted g.L.Log root key place old c.place_for.new.cache mid {E = Error} some.0 some.1 (Ok c.in_ok-delete.field-0) c.in_ok-delete.ensures.before c.in_ok-place.ensures c.in_ok-delete.ensures.links) in
+    (deleted g.L.Log {E = Error} c.in_ok-delete.ensures.before some.1 c.in_ok-place.ensures c.in_ok-delete.ensures.links) in
     swap-take g.L.Log Error root key (option_map (λ old. old.now) c.args.old) old new Error some.0 (sym (c.is_value.ensures.same c.if-not-is_value.false) ∙ some.1)
     (takes-then g.L.Log Error root key some.0 old mid new taken c.merge_few.ensures)

@@ -1,22 +1,18 @@
 use Rattle.std.proofs.Common.{Option, Some, Err, refl, subst, sym}
 use Rattle.std.specs.Option.{option_map}
-use Rattle.std.specs.Prelude.{⊤}
 use Rattle.sled_base.specs.Order.{Bytes}
 use Rattle.sled_tree.specs.Maps.{ChangesMap, SwapsKey, root_of}
 use Rattle.sled_tree.specs.Performs.{Performs}
-use Rattle.sled_tree.specs.Walks.{HasRoot}
 use Rattle.sled_tree.specs.declared.error.TreeError.{TreeError}
 use Rattle.sled_tree.specs.declared.error.TreeError.TheVariants.{ValueTooLong}
-use Rattle.sled_tree.proofs.Keeping.{keeps-quiet}
-use Rattle.sled_tree.proofs.Performing.{nothing, on-any}
+use Rattle.sled_tree.proofs.Keeping.{still-keeps}
 use Rattle.sled_tree.proofs.Swapping.{swap-failed, swap-refused}
 use Rattle.sled_tree.proofs.maps.values.compare_and_swap.Goals as goal
 
 pub returns-then-len-gt-MAX_BYTES-clause-maps : goal.returns-then-len-gt-MAX_BYTES-clause-maps
 returns-then-len-gt-MAX_BYTES-clause-maps g c =
     let here = c.args.cache.now in
-    swap-refused g.L.Log TreeError (root_of c.args.tree) c.args.key.now (option_map (λ old. old.now) c.args.old) here here c.args.new (Err ValueTooLong) refl
-    (keeps-quiet g.L.Log (HasRoot (root_of c.args.tree)) here here (on-any g.L.Log (λ _. ⊤) here here (nothing g.L.Log here)))
+    swap-refused g.L.Log TreeError (root_of c.args.tree) c.args.key.now (option_map (λ old. old.now) c.args.old) here here c.args.new (Err ValueTooLong) refl (still-keeps g.L.Log)
 
 pub returns-in_err-set_where-clause-maps : goal.returns-in_err-set_where-clause-maps
 returns-in_err-set_where-clause-maps g c =

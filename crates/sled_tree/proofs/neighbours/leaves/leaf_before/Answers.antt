@@ -1,10 +1,7 @@
-use Rattle.std.proofs.Common.{ℕ, sym, subst}
-use Rattle.sled_search.specs.Routes.{RoutesBefore}
-use Rattle.sled_search.specs.Search.{HasNodeAt}
-use Rattle.sled_tree.specs.OrderedLeaves.{ComesBefore}
+use Rattle.std.proofs.Common.{ℕ, refl, sym, subst}
 use Rattle.sled_tree.specs.Performs.{Performs}
-use Rattle.sled_tree.proofs.OrderedReads.{LedBefore, begins-before, turn-here-before, turn-on-before}
-use Rattle.sled_tree.proofs.Performing.{On, on-any, on-quiet, reads-err, reads-fail, reads-quiet}
+use Rattle.sled_tree.proofs.OrderedReads.{LedBefore, begins-before, read-fails, read-lost, turn-here-before, turn-on-before}
+use Rattle.sled_tree.proofs.Performing.{On}
 use Rattle.sled_tree.proofs.neighbours.leaves.leaf_before.Goals.{in-Down, in-Down-2}
 use Rattle.sled_tree.proofs.neighbours.leaves.leaf_before.Goals as goal
 
@@ -23,15 +20,10 @@ turns-preserved g c =
     ]
 
 pub returns-in-Astray : goal.returns-in-Astray
-returns-in-Astray g c = reads-err g.L.Log (λ pages leaf. ComesBefore pages c.args.root c.args.bound.now leaf) c.args.cache.now c.turn_before_at.new.cache _
-    (on-quiet g.L.Log (LedBefore c.args.root c.args.bound.now c.turns.at) c.args.cache.now c.turns.cache c.turn_before_at.new.cache c.turns.invariant
-    (reads-quiet g.L.Log (λ pages turn. HasNodeAt pages c.turns.at (RoutesBefore c.args.bound.now turn)) c.turn_before_at.result c.turns.cache c.turn_before_at.new.cache c.turn_before_at.ensures))
+returns-in-Astray g c = read-fails g.L.Log c.turns.invariant refl c.turn_before_at.ensures
 
 pub returns-in_err-turn_before_at : goal.returns-in_err-turn_before_at
-returns-in_err-turn_before_at g c = reads-fail g.L.Log (λ pages leaf. ComesBefore pages c.args.root c.args.bound.now leaf) c.from_residual.result c.args.cache.now c.turn_before_at.new.cache c.from_residual.ensures.0
-    (on-quiet g.L.Log (LedBefore c.args.root c.args.bound.now c.turns.at) c.args.cache.now c.turns.cache c.turn_before_at.new.cache c.turns.invariant
-    (reads-quiet g.L.Log (λ pages turn. HasNodeAt pages c.turns.at (RoutesBefore c.args.bound.now turn)) c.turn_before_at.result c.turns.cache c.turn_before_at.new.cache c.turn_before_at.ensures))
+returns-in_err-turn_before_at g c = read-fails g.L.Log c.turns.invariant c.from_residual.ensures.0 c.turn_before_at.ensures
 
 pub returns : goal.returns
-returns g c = reads-err g.L.Log (λ pages leaf. ComesBefore pages c.args.root c.args.bound.now leaf) c.args.cache.now c.turns.cache _
-    (on-any g.L.Log (LedBefore c.args.root c.args.bound.now c.turns.at) c.args.cache.now c.turns.cache c.turns.invariant)
+returns g c = read-lost g.L.Log c.turns.invariant

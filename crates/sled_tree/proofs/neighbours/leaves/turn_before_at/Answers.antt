@@ -1,23 +1,11 @@
-use Rattle.std.proofs.Common.{Ok, Some}
-use Rattle.sled_pagecache.specs.Lending.{IsGot}
-use Rattle.sled_search.specs.Routes.{RoutesBefore}
-use Rattle.sled_search.specs.Search.{HasNodeAt}
-use Rattle.sled_tree.proofs.Performing.{got-any, of-node, reads-err}
+use Rattle.sled_tree.proofs.Performing.{looks-at, looks-err}
 use Rattle.sled_tree.proofs.neighbours.leaves.turn_before_at.Goals as goal
 
 pub returns-in-Ok-Some : goal.returns-in-Ok-Some
-returns-in-Ok-Some g c =
-    let last = c.get.follows.lender-at-none in
-    let view = c.in-Ok-Some.view in
-    let got : IsGot g.L.Log c.args.cache.now c.args.pid (Ok (Some view)) last = rw (c.in-Ok-Some.is, c.in-Ok-Some.field-0-is) at c.get.follows.holds-at-none in
-    of-node g.L.Log (λ n turn. RoutesBefore c.args.bound.now turn n) c.args.cache.now last c.args.pid view got c.node.result.now c.node.ensures (Ok c.route_before.result) c.route_before.ensures
+returns-in-Ok-Some g c = looks-at g.L.Log c.get.follows.holds-at-none c.in-Ok-Some.is c.in-Ok-Some.field-0-is c.node.ensures c.route_before.ensures
 
 pub returns-in-Ok-None : goal.returns-in-Ok-None
-returns-in-Ok-None g c =
-    let last = c.get.follows.lender-at-none in
-    reads-err g.L.Log (λ pages turn. HasNodeAt pages c.args.pid (RoutesBefore c.args.bound.now turn)) c.args.cache.now last _ (got-any g.L.Log c.args.cache.now last c.args.pid c.get.result c.get.follows.holds-at-none)
+returns-in-Ok-None g c = looks-err g.L.Log c.get.follows.holds-at-none
 
 pub returns-in-Err : goal.returns-in-Err
-returns-in-Err g c =
-    let last = c.get.follows.lender-at-none in
-    reads-err g.L.Log (λ pages turn. HasNodeAt pages c.args.pid (RoutesBefore c.args.bound.now turn)) c.args.cache.now last _ (got-any g.L.Log c.args.cache.now last c.args.pid c.get.result c.get.follows.holds-at-none)
+returns-in-Err g c = looks-err g.L.Log c.get.follows.holds-at-none

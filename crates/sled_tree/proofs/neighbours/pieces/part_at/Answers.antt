@@ -1,23 +1,11 @@
-use Rattle.std.proofs.Common.{Ok, Some}
-use Rattle.sled_pagecache.specs.Lending.{IsGot}
-use Rattle.sled_search.specs.Search.{HasNodeAt}
-use Rattle.sled_tree.proofs.Performing.{got-any, of-node, reads-err}
-use Rattle.sled_tree.specs.OrderedLeaves.{ShowsWithin}
+use Rattle.sled_tree.proofs.Performing.{looks-at, looks-err}
 use Rattle.sled_tree.proofs.neighbours.pieces.part_at.Goals as goal
 
 pub returns-in-Ok-Some : goal.returns-in-Ok-Some
-returns-in-Ok-Some g c =
-    let last = c.get.follows.lender-at-none in
-    let view = c.in-Ok-Some.view in
-    let got : IsGot g.L.Log c.args.cache.now c.args.leaf (Ok (Some view)) last = rw (c.in-Ok-Some.is, c.in-Ok-Some.field-0-is) at c.get.follows.holds-at-none in
-    of-node g.L.Log (λ n part. ShowsWithin c.args.from.now c.args.to.now part n) c.args.cache.now last c.args.leaf view got c.node.result.now c.node.ensures c.part_in.result c.part_in.ensures
+returns-in-Ok-Some g c = looks-at g.L.Log c.get.follows.holds-at-none c.in-Ok-Some.is c.in-Ok-Some.field-0-is c.node.ensures c.part_in.ensures
 
 pub returns-in-Ok-None : goal.returns-in-Ok-None
-returns-in-Ok-None g c =
-    let last = c.get.follows.lender-at-none in
-    reads-err g.L.Log (λ pages part. HasNodeAt pages c.args.leaf (ShowsWithin c.args.from.now c.args.to.now part)) c.args.cache.now last _ (got-any g.L.Log c.args.cache.now last c.args.leaf c.get.result c.get.follows.holds-at-none)
+returns-in-Ok-None g c = looks-err g.L.Log c.get.follows.holds-at-none
 
 pub returns-in-Err : goal.returns-in-Err
-returns-in-Err g c =
-    let last = c.get.follows.lender-at-none in
-    reads-err g.L.Log (λ pages part. HasNodeAt pages c.args.leaf (ShowsWithin c.args.from.now c.args.to.now part)) c.args.cache.now last _ (got-any g.L.Log c.args.cache.now last c.args.leaf c.get.result c.get.follows.holds-at-none)
+returns-in-Err g c = looks-err g.L.Log c.get.follows.holds-at-none
