@@ -4,3 +4,4 @@ pub mod LogOfBytes
 pub mod CallOutcomes
 pub mod UnchangedMeaning
 pub mod LaterReads
+pub mod OneMore

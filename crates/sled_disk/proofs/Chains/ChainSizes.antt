@@ -9,7 +9,6 @@ use Rattle.sled_base.specs.Kinds.{kind_of, log_kind_of}
 use Rattle.sled_base.specs.declared.kinds.LogKind.{LogKind}
 use Rattle.sled_base.specs.declared.kinds.LogKind.TheVariants as effects
 use Rattle.sled_base.specs.declared.kinds.MessageKind.{MessageKind}
-use Rattle.sled_base.specs.declared.kinds.MessageKind.TheVariants as kinds
 use Rattle.sled_log.proofs.ChainLaws.{all-append, Says, AllIn, chains-all}
 use Rattle.sled_log.proofs.SizeLaws.{chain_size, events_size, event_size, chains_after-size, each-below}
 use Rattle.sled_log.specs.Chains.{chains_after}
@@ -29,6 +28,7 @@ use Rattle.sled_disk.specs.LogContents.{Stands, records_behind, progress_in, pro
 use Rattle.sled_disk.specs.LogContentsLaws.{parsed, progress-in, progress-then, heads-stand, all-chains}
 use Rattle.sled_disk.specs.WholeLaws.{stepped}
 use Rattle.sled_disk.proofs.Frames.PendingBuffer.{waits-length}
+use Rattle.sled_disk.proofs.Moves.CountedMessages.{plain-by}
 
 abbrev log_size_of : Entry → ℕ
 log_size_of entry = entry.place.log_size
@@ -92,19 +92,7 @@ module _ (place : ℕ) (r : Record) where
   skips s later is = ap (λ (q : Meant). all_of q) (sym (same_meant (outside s) later is)) ∙ sym (append-nil (s ++ []))
 
   plain-adds : (kind : MessageKind) (s : List (Event Entry)) (mark : Bool) (later : Meant) → plain entry_at takes kind s place r mark ≡ Some later → Adds s later (event_by (log_kind_of kind) place r)
-  plain-adds kinds.Canceled s mark later is = skips s later is
-  plain-adds kinds.BatchManifest s true later is = skips s later is
-  plain-adds kinds.BatchManifest s false later is = absurd cc
-  plain-adds kinds.Corrupted s mark later is = absurd cc
-  plain-adds kinds.Cap s mark later is = absurd cc
-  plain-adds kinds.Free s mark later is = one s later is
-  plain-adds kinds.Counter s mark later is = one s later is
-  plain-adds kinds.InlineMeta s mark later is = one s later is
-  plain-adds kinds.BlobMeta s mark later is = one s later is
-  plain-adds kinds.InlineNode s mark later is = one s later is
-  plain-adds kinds.BlobNode s mark later is = one s later is
-  plain-adds kinds.InlineLink s mark later is = one s later is
-  plain-adds kinds.BlobLink s mark later is = one s later is
+  plain-adds kind s mark later is = plain-by (λ kind. Adds s later (event_by kind place r)) place r s later (one s later) (one s later) (one s later) (skips s later) kind mark is
 
   outside-turned : (s : List (Event Entry)) (mark : Bool) (later : Meant) (a b : Bool) → r.kind == 12 ≡ a → (if a then (if b then Some (within s place []) else None) else plain entry_at takes (kind_of r.kind) s place r mark) ≡ Some later → Turned (outside s) later place r
   outside-turned s mark later true true e is = inr (ap (λ (q : Meant). all_of q) (sym (same_meant (within s place []) later is)))

@@ -14,6 +14,8 @@ use Rattle.sled_log.specs.Messages.{unplaced_events}
 use Rattle.sled_log.specs.Inside.UnplacedLaws.{chains_after-unplaced, is_open-unplaced}
 use Rattle.sled_log.specs.declared.log.LogError.{LogError}
 use Rattle.sled_log.specs.declared.log.LogError.TheVariants.{Memory, Full, ReadFault, WriteFault, Corruption}
+use Rattle.sled_disk.specs.declared.disk.Disk.{Ghosts}
+use Rattle.sled_disk.specs.declared.log.DiskLog.{DiskLog}
 use Rattle.sled_disk.specs.declared.recovery.head.Head.{Head}
 use Rattle.sled_disk.specs.Crash.{BytesLeft}
 use Rattle.sled_disk.specs.Disk.{Only}
@@ -24,6 +26,8 @@ use Rattle.sled_disk.specs.RecoveredLog.{Means, LeavesPages, IsEither}
 use Rattle.sled_disk.specs.RecoveredLogLaws.{stands-described}
 use Rattle.sled_disk.specs.LogContents.{Stands, records_behind, events_in, inside_in, progress_in, is_begun, inside_of}
 use Rattle.sled_disk.specs.MeaningLaws.{Meant}
+use Rattle.sled_disk.specs.PendingFrame.{batch_of}
+use Rattle.sled_disk.specs.Reading.{chains_of}
 use Rattle.sled_disk.specs.Pending.{open_by, batch_events, pending_events}
 use Rattle.sled_disk.specs.PendingLaws.{all-open, Settles, open_events}
 use Rattle.sled_disk.proofs.Frames.WrittenFrame.{left-so}
@@ -86,6 +90,10 @@ module _ (seen : List ℕ) (gate : ℕ) (spilled : Bool) (buffer : List ℕ) (us
 -- whether a batch is open
 pub opens-by : (seen : List ℕ) (gate : ℕ) (spilled : Bool) (buffer : List ℕ) → is_open (pending_in seen gate spilled buffer) ≡ open_by spilled (records_behind buffer)
 opens-by seen gate spilled buffer = all-open spilled (inside_in seen) (gate + 9) (records_behind buffer)
+
+-- and in the next frame
+pub batch-now : {D : Type 0} {g : Ghosts D} (log : DiskLog D g) (b : Bool) → is_open (pending_in (g.seen log.disk) log.next.gate log.next.spilled log.next.buffer.items) ≡ b → log.next.batch ≡ b
+batch-now {g = g} log b is = log.next.batch_is ∙ sym (opens-by (g.seen log.disk) log.next.gate log.next.spilled log.next.buffer.items) ∙ is
 
 -- ---- crashes
 
@@ -169,74 +177,65 @@ not-read e (inl m) w = cc
 not-read e (inr (inl f)) w = cc
 not-read e (inr (inr c)) w = cc
 
--- a log on a disk, by what it keeps
-module _ {L D : Type 0} (disk_of : L → D) (gate_of : L → ℕ) (spilled_of : L → Bool) (buffer_of : L → List ℕ) (batch_of : L → Option ℕ) (usable_of : L → Bool) (reads_of : L → ℕ)
-    (tells : Type 0) (seen : D → List ℕ) (may_leave : D → List ℕ → Type 0) (moment : D → ℕ) (left_since : D → ℕ → List ℕ → Type 0) (counts : D → Counts)
-    (only_now : (disk : D) (left : List ℕ) → tells → left_since disk (moment disk) left → may_leave disk left) where
-  abbrev pub log_state : L → LogState Entry
-  log_state log = state_in (seen (disk_of log)) (gate_of log) (spilled_of log) (buffer_of log) (usable_of log)
+-- a log on a disk
+module _ {D : Type 0} (g : Ghosts D) (only_now : (disk : D) (left : List ℕ) → g.tells → g.left_since disk (g.moment disk) left → g.may_leave disk left) (are_bytes : (disk : D) → g.tells → IsBytes (g.seen disk)) where
+  abbrev pub log_state : DiskLog D g → LogState Entry
+  log_state log = state_in (g.seen log.disk) log.next.gate log.next.spilled log.next.buffer.items log.usable
 
-  abbrev pub log_moment : L → ℕ
-  log_moment log = moment (disk_of log)
+  abbrev pub log_moment : DiskLog D g → ℕ
+  log_moment log = g.moment log.disk
 
-  abbrev pub log_left : L → ℕ → List Messages → Type 0
-  log_left log t pages = LeavesPages (left_since (disk_of log) t) pages
+  abbrev pub log_left : DiskLog D g → ℕ → List Messages → Type 0
+  log_left log t pages = LeavesPages (g.left_since log.disk t) pages
 
-  abbrev pub log_counts : L → Counts
-  log_counts log = record { reads = reads_of log; failed_reads = (counts (disk_of log)).failed_reads; write_faults = (counts (disk_of log)).write_faults }
+  abbrev pub log_counts : DiskLog D g → Counts
+  log_counts log = record { reads = log.reads; failed_reads = (g.counts log.disk).failed_reads; write_faults = (g.counts log.disk).write_faults }
 
-  abbrev pub pending_of : L → List (Event Entry)
-  pending_of log = pending_in (seen (disk_of log)) (gate_of log) (spilled_of log) (buffer_of log)
+  abbrev pub pending_of : DiskLog D g → List (Event Entry)
+  pending_of log = pending_in (g.seen log.disk) log.next.gate log.next.spilled log.next.buffer.items
 
-  abbrev pub records_of : L → List Record
-  records_of log = records_behind (buffer_of log)
+  abbrev pub records_of : DiskLog D g → List Record
+  records_of log = records_behind log.next.buffer.items
 
-  -- what holds of a log that may be called
-  pub record IsReady (log : L) : Type 0 where
-    pub heads : List (List Head)
-    pub fits : IsBytes (seen (disk_of log))
-    pub stands : Stands (seen (disk_of log)) (gate_of log) (spilled_of log) (records_behind (buffer_of log)) (batch_of log) heads
-    pub durable : Only (seen (disk_of log)) (may_leave (disk_of log))
-
-  opens : (log : L) → is_open (pending_of log) ≡ open_by (spilled_of log) (records_of log)
-  opens log = opens-by (seen (disk_of log)) (gate_of log) (spilled_of log) (buffer_of log)
+  opens : (log : DiskLog D g) → is_open (pending_of log) ≡ open_by log.next.spilled (records_of log)
+  opens log = opens-by (g.seen log.disk) log.next.gate log.next.spilled log.next.buffer.items
 
   -- what waits is the same where the records, the gate and the file are
-  pub record IsSame (before after : L) : Type 0 where
-    pub gate : gate_of after ≡ gate_of before
-    pub spilled : spilled_of after ≡ spilled_of before
+  pub record IsSame (before after : DiskLog D g) : Type 0 where
+    pub gate : after.next.gate ≡ before.next.gate
+    pub spilled : after.next.spilled ≡ before.next.spilled
     pub records : records_of after ≡ records_of before
 
-  same-open : (before after : L) → IsSame before after → is_open (pending_of after) ≡ is_open (pending_of before)
-  same-open before after s = opens after ∙ ap (λ b. open_by b (records_of after)) s.spilled ∙ ap (open_by (spilled_of before)) s.records ∙ sym (opens before)
+  same-open : (before after : DiskLog D g) → IsSame before after → is_open (pending_of after) ≡ is_open (pending_of before)
+  same-open before after s = opens after ∙ ap (λ b. open_by b (records_of after)) s.spilled ∙ ap (open_by before.next.spilled) s.records ∙ sym (opens before)
 
-  same-pending : (before after : L) → seen (disk_of after) ≡ seen (disk_of before) → IsSame before after → pending_of after ≡ pending_of before
+  same-pending : (before after : DiskLog D g) → g.seen after.disk ≡ g.seen before.disk → IsSame before after → pending_of after ≡ pending_of before
   same-pending before after is s =
-      ap (λ (l : List ℕ). batch_events (spilled_of after) (inside_in l) ++ pending_events (gate_of after + 9) (records_of after)) is
-      ∙ ap (λ b. batch_events b (inside_in (seen (disk_of before))) ++ pending_events (gate_of after + 9) (records_of after)) s.spilled
-      ∙ ap (λ n. batch_events (spilled_of before) (inside_in (seen (disk_of before))) ++ pending_events (n + 9) (records_of after)) s.gate
-      ∙ ap (λ (rs : List Record). batch_events (spilled_of before) (inside_in (seen (disk_of before))) ++ pending_events (gate_of before + 9) rs) s.records
+      ap (λ (l : List ℕ). batch_events after.next.spilled (inside_in l) ++ pending_events (after.next.gate + 9) (records_of after)) is
+      ∙ ap (λ b. batch_events b (inside_in (g.seen before.disk)) ++ pending_events (after.next.gate + 9) (records_of after)) s.spilled
+      ∙ ap (λ n. batch_events before.next.spilled (inside_in (g.seen before.disk)) ++ pending_events (n + 9) (records_of after)) s.gate
+      ∙ ap (λ (rs : List Record). batch_events before.next.spilled (inside_in (g.seen before.disk)) ++ pending_events (before.next.gate + 9) rs) s.records
 
   -- the disk was read at most: a crash leaves what is durable
-  rests : (before after : L) (begun : List (Event Message)) → tells → IsReady before → Rests tells seen may_leave moment left_since (disk_of before) (disk_of after) → CrashesSinceLeave log_moment log_left before after (IsLeft effect_of (unplaced_state (log_state before)) begun)
-  rests before after begun told ready rest =
-      let d = disk_of before in
-      crashes disk_of moment left_since before after (λ bytes. bytes ≡ seen d) (IsLeft effect_of (unplaced_state (log_state before)) begun)
-      (at-read seen may_leave moment left_since (λ disk bytes was. only_now disk bytes told was) d (disk_of after) told ready.durable rest)
-      (means-none (seen d) (gate_of before) (spilled_of before) (buffer_of before) (usable_of before) (batch_of before) ready.heads ready.fits ready.stands begun)
+  rests : (before after : DiskLog D g) (begun : List (Event Message)) → g.tells → before.usable ≡ true → Rests g.tells g.seen g.may_leave g.moment g.left_since before.disk after.disk → CrashesSinceLeave log_moment log_left before after (IsLeft effect_of (unplaced_state (log_state before)) begun)
+  rests before after begun told can rest =
+      let d = before.disk in
+      crashes (λ (log : DiskLog D g). log.disk) g.moment g.left_since before after (λ bytes. bytes ≡ g.seen d) (IsLeft effect_of (unplaced_state (log_state before)) begun)
+      (at-read g.seen g.may_leave g.moment g.left_since (λ disk bytes was. only_now disk bytes told was) d after.disk told (before.durable told can) rest)
+      (means-none (g.seen d) before.next.gate before.next.spilled before.next.buffer.items before.usable (batch_of before.next) (chains_of before.pages.items) (are_bytes d told) (before.stands told can) begun)
 
   -- it has what it had
-  kept : (before after : L) (more : List (Event Entry)) → tells → Rests tells seen may_leave moment left_since (disk_of before) (disk_of after) → pending_of after ≡ pending_of before ++ more → Adds effect_of_entry (log_state before) more (log_state after)
+  kept : (before after : DiskLog D g) (more : List (Event Entry)) → g.tells → Rests g.tells g.seen g.may_leave g.moment g.left_since before.disk after.disk → pending_of after ≡ pending_of before ++ more → Adds effect_of_entry (log_state before) more (log_state after)
   kept before after more told rest pending =
-      adds-none (seen (disk_of before)) (gate_of before) (spilled_of before) (buffer_of before) (usable_of before) more (log_state after)
+      adds-none (g.seen before.disk) before.next.gate before.next.spilled before.next.buffer.items before.usable more (log_state after)
       (ap (λ (l : List ℕ). chains_after effect_of_entry [] (events_in l)) (rest.same told)) pending
 
-  module _ {T : Type 0} (before after : L) (events : T → List (Event Entry)) (begun : List (Event Message)) where
+  module _ {T : Type 0} (before after : DiskLog D g) (events : T → List (Event Entry)) (begun : List (Event Message)) where
     -- nothing changed
-    pub called-refused : (e : LogError) → IsRefusal e → (tells → e ≢ Corruption) → Rests tells seen may_leave moment left_since (disk_of before) (disk_of after) → counts (disk_of after) ≡ counts (disk_of before) → usable_of after ≡ true → reads_of after ≡ reads_of before
-        → IsSame before after → (tells → IsReady before)
-        → (let result : Result T LogError = Err e in Called tells log_state log_moment log_left log_counts before after (reads_of before) events begun result)
-    called-refused e why sound rest same usable reads pending ready =
+    pub called-refused : (e : LogError) → IsRefusal e → (g.tells → e ≢ Corruption) → Rests g.tells g.seen g.may_leave g.moment g.left_since before.disk after.disk → g.counts after.disk ≡ g.counts before.disk → after.usable ≡ true → after.reads ≡ before.reads
+        → IsSame before after → before.usable ≡ true
+        → (let result : Result T LogError = Err e in Called g.tells log_state log_moment log_left log_counts before after before.reads events begun result)
+    called-refused e why sound rest same usable reads pending can =
         let result : Result T LogError = Err e in
         let q = quiet T e begun (not-write e why) in
         record {
@@ -251,15 +250,15 @@ module _ {L D : Type 0} (disk_of : L → D) (gate_of : L → ℕ) (spilled_of : 
           reads = reads;
           added = λ _. tt;
           refused = λ told _. kept before after [] told rest (same-pending before after (rest.same told) pending ∙ sym (append-nil (pending_of before)));
-          stop = λ told. rests before after (begun_by result begun) told (ready told) rest;
+          stop = λ told. rests before after (begun_by result begun) told can rest;
           sound = λ told is. sound told (let h : e ≡ Corruption = cc in h);
         }
 
     -- events came, and wait
-    pub called-waits : (said : T) → Rests tells seen may_leave moment left_since (disk_of before) (disk_of after) → counts (disk_of after) ≡ counts (disk_of before) → usable_of after ≡ true → reads_of after ≡ reads_of before → (tells → pending_of after ≡ pending_of before ++ events said)
-        → open_by (spilled_of after) (records_of after) ≡ open_after (open_by (spilled_of before) (records_of before)) begun → (tells → IsReady before)
-        → (let result : Result T LogError = Ok said in Called tells log_state log_moment log_left log_counts before after (reads_of before) events begun result)
-    called-waits said rest same usable reads pending opened ready = record {
+    pub called-waits : (said : T) → Rests g.tells g.seen g.may_leave g.moment g.left_since before.disk after.disk → g.counts after.disk ≡ g.counts before.disk → after.usable ≡ true → after.reads ≡ before.reads → (g.tells → pending_of after ≡ pending_of before ++ events said)
+        → open_by after.next.spilled (records_of after) ≡ open_after (open_by before.next.spilled (records_of before)) begun → before.usable ≡ true
+        → (let result : Result T LogError = Ok said in Called g.tells log_state log_moment log_left log_counts before after before.reads events begun result)
+    called-waits said rest same usable reads pending opened can = record {
       usable = usable;
       opened = λ _. opens after ∙ opened ∙ ap (λ b. open_after b begun) (sym (opens before));
       cause = record {
@@ -271,43 +270,42 @@ module _ {L D : Type 0} (disk_of : L → D) (gate_of : L → ℕ) (spilled_of : 
       reads = reads;
       added = λ told. kept before after (events said) told rest (pending told);
       refused = λ _. tt;
-      stop = λ told. rests before after begun told (ready told) rest;
+      stop = λ told. rests before after begun told can rest;
       sound = λ told is. cc;
     }
 
     -- events came, and then what was pending was written as a frame
-    module _ (mid : L) (more : List (Event Entry)) (tells_begun : unplaced_events more ≡ begun) (rest : Rests tells seen may_leave moment left_since (disk_of before) (disk_of mid)) (same : counts (disk_of mid) ≡ counts (disk_of before)) (ready : tells → IsReady before)
-        (pending : tells → pending_of mid ≡ pending_of before ++ more) (opened : open_by (spilled_of mid) (records_of mid) ≡ open_after (open_by (spilled_of before) (records_of before)) begun)
-        (reads : reads_of after ≡ reads_of before) (written : Meant) (settled : tells → Settles (progress_in (seen (disk_of mid))) written (pending_events (gate_of mid + 9) (records_of mid))) (begins : tells → is_begun (progress_in (seen (disk_of mid))).begun ≡ spilled_of mid)
-        (any_moment : tells → BytesLeft moment left_since (disk_of mid) (disk_of after) (IsEither (events_in (seen (disk_of mid))) written.settled)) where
+    module _ (mid : DiskLog D g) (more : List (Event Entry)) (tells_begun : unplaced_events more ≡ begun) (rest : Rests g.tells g.seen g.may_leave g.moment g.left_since before.disk mid.disk) (same : g.counts mid.disk ≡ g.counts before.disk) (can : before.usable ≡ true)
+        (pending : g.tells → pending_of mid ≡ pending_of before ++ more) (opened : open_by mid.next.spilled (records_of mid) ≡ open_after (open_by before.next.spilled (records_of before)) begun)
+        (reads : after.reads ≡ before.reads) (written : Meant) (settled : g.tells → Settles (progress_in (g.seen mid.disk)) written (pending_events (mid.next.gate + 9) (records_of mid))) (begins : g.tells → is_begun (progress_in (g.seen mid.disk)).begun ≡ mid.next.spilled)
+        (any_moment : g.tells → BytesLeft g.moment g.left_since mid.disk after.disk (IsEither (events_in (g.seen mid.disk)) written.settled)) where
       abbrev seen_before : List ℕ
-      seen_before = seen (disk_of before)
+      seen_before = g.seen before.disk
 
-      parts : (told : tells) → pending_of before ++ more ≡ (settled told).done ++ open_events written
-      parts told = sym (pending told) ∙ ap (λ b. batch_events b (inside_in (seen (disk_of mid))) ++ pending_events (gate_of mid + 9) (records_of mid)) (sym (begins told)) ∙ (settled told).parts
+      parts : (told : g.tells) → pending_of before ++ more ≡ (settled told).done ++ open_events written
+      parts told = sym (pending told) ∙ ap (λ b. batch_events b (inside_in (g.seen mid.disk)) ++ pending_events (mid.next.gate + 9) (records_of mid)) (sym (begins told)) ∙ (settled told).parts
 
-      same-pages : (told : tells) → chains_after effect_of_entry [] written.settled ≡ chains_after effect_of_entry (chains_after effect_of_entry [] (events_in seen_before)) (settled told).done
+      same-pages : (told : g.tells) → chains_after effect_of_entry [] written.settled ≡ chains_after effect_of_entry (chains_after effect_of_entry [] (events_in seen_before)) (settled told).done
       same-pages told = (settled told).made ∙ ap (λ (l : List ℕ). chains_after effect_of_entry (chains_after effect_of_entry [] (events_in l)) (settled told).done) (rest.same told)
 
-      stops : tells → CrashesSinceLeave log_moment log_left before after (IsLeft effect_of (unplaced_state (log_state before)) begun)
+      stops : g.tells → CrashesSinceLeave log_moment log_left before after (IsLeft effect_of (unplaced_state (log_state before)) begun)
       stops told =
-          let d = disk_of before in
-          let r = ready told in
-          let left : BytesLeft moment left_since d (disk_of after) (IsEither (events_in seen_before) written.settled) =
-          rests-then seen may_leave moment left_since (λ disk bytes was. only_now disk bytes told was) d (disk_of mid) (disk_of after) (IsEither (events_in seen_before) written.settled) told r.durable
-          (inl (gate_of before, stands-described seen_before (gate_of before) (spilled_of before) (records_of before) (batch_of before) r.heads r.fits r.stands)) rest
-          (subst (λ (l : List ℕ). BytesLeft moment left_since (disk_of mid) (disk_of after) (IsEither (events_in l) written.settled)) (rest.same told) (any_moment told)) in
-          crashes disk_of moment left_since before after (IsEither (events_in seen_before) written.settled) (IsLeft effect_of (unplaced_state (log_state before)) begun) left
+          let d = before.disk in
+          let left : BytesLeft g.moment g.left_since d after.disk (IsEither (events_in seen_before) written.settled) =
+          rests-then g.seen g.may_leave g.moment g.left_since (λ disk bytes was. only_now disk bytes told was) d mid.disk after.disk (IsEither (events_in seen_before) written.settled) told (before.durable told can)
+          (inl (before.next.gate, stands-described seen_before before.next.gate before.next.spilled (records_of before) (batch_of before.next) (chains_of before.pages.items) (are_bytes d told) (before.stands told can))) rest
+          (subst (λ (l : List ℕ). BytesLeft g.moment g.left_since mid.disk after.disk (IsEither (events_in l) written.settled)) (rest.same told) (any_moment told)) in
+          crashes (λ (log : DiskLog D g). log.disk) g.moment g.left_since before after (IsEither (events_in seen_before) written.settled) (IsLeft effect_of (unplaced_state (log_state before)) begun) left
           (λ bytes pages was means. subst (λ (l : List (Event Message)). IsLeft effect_of (unplaced_state (log_state before)) l pages) tells_begun
-          (means-frame seen_before (gate_of before) (spilled_of before) (buffer_of before) (usable_of before) more (settled told).done (open_events written) written.settled bytes pages (parts told) (settled told).closed (same-pages told) was means))
+          (means-frame seen_before before.next.gate before.next.spilled before.next.buffer.items before.usable more (settled told).done (open_events written) written.settled bytes pages (parts told) (settled told).closed (same-pages told) was means))
 
-      pub called-wrote : (said : T) → events said ≡ more → usable_of after ≡ true → records_of after ≡ [] → spilled_of after ≡ open_by (spilled_of mid) (records_of mid)
-          → (tells → progress_in (seen (disk_of after)) ≡ written) → (tells → is_begun written.begun ≡ spilled_of after)
-          → (let result : Result T LogError = Ok said in HasCause (counts (disk_of mid)) (counts (disk_of after)) result)
-          → (let result : Result T LogError = Ok said in Called tells log_state log_moment log_left log_counts before after (reads_of before) events begun result)
+      pub called-wrote : (said : T) → events said ≡ more → after.usable ≡ true → records_of after ≡ [] → after.next.spilled ≡ open_by mid.next.spilled (records_of mid)
+          → (g.tells → progress_in (g.seen after.disk) ≡ written) → (g.tells → is_begun written.begun ≡ after.next.spilled)
+          → (let result : Result T LogError = Ok said in HasCause (g.counts mid.disk) (g.counts after.disk) result)
+          → (let result : Result T LogError = Ok said in Called g.tells log_state log_moment log_left log_counts before after before.reads events begun result)
       called-wrote said are usable none spilled stable ends cause = record {
         usable = usable;
-        opened = λ _. opens after ∙ ap (open_by (spilled_of after)) none ∙ spilled ∙ opened ∙ ap (λ b. open_after b begun) (sym (opens before));
+        opened = λ _. opens after ∙ ap (open_by after.next.spilled) none ∙ spilled ∙ opened ∙ ap (λ b. open_after b begun) (sym (opens before));
         cause = record {
           failed_reads = let f = ap (λ (c : Counts). c.failed_reads) same in let h = cause.failed_reads in omega (arith, f, h);
           write_faults = let f = ap (λ (c : Counts). c.write_faults) same in let h = cause.write_faults in omega (arith, f, h);
@@ -316,19 +314,19 @@ module _ {L D : Type 0} (disk_of : L → D) (gate_of : L → ℕ) (spilled_of : 
         };
         reads = reads;
         added = λ told.
-            adds-part seen_before (gate_of before) (spilled_of before) (buffer_of before) (usable_of before) (events said) (settled told).done (open_events written) (log_state after)
+            adds-part seen_before before.next.gate before.next.spilled before.next.buffer.items before.usable (events said) (settled told).done (open_events written) (log_state after)
             (ap (λ (l : List (Event Entry)). pending_of before ++ l) are ∙ parts told) (settled told).closed
             (ap (λ (q : Meant). chains_after effect_of_entry [] q.settled) (stable told) ∙ same-pages told)
-            (ap (λ (rs : List Record). batch_events (spilled_of after) (inside_in (seen (disk_of after))) ++ pending_events (gate_of after + 9) rs) none ∙ append-nil (batch_events (spilled_of after) (inside_in (seen (disk_of after))))
-            ∙ ap (λ b. batch_events b (inside_in (seen (disk_of after)))) (sym (ends told)) ∙ ap (λ (q : Meant). batch_events (is_begun written.begun) (inside_of q.begun)) (stable told));
+            (ap (λ (rs : List Record). batch_events after.next.spilled (inside_in (g.seen after.disk)) ++ pending_events (after.next.gate + 9) rs) none ∙ append-nil (batch_events after.next.spilled (inside_in (g.seen after.disk)))
+            ∙ ap (λ b. batch_events b (inside_in (g.seen after.disk))) (sym (ends told)) ∙ ap (λ (q : Meant). batch_events (is_begun written.begun) (inside_of q.begun)) (stable told));
         refused = λ _. tt;
         stop = stops;
         sound = λ told is. cc;
       }
 
-      pub called-fault : usable_of after ≡ false
-          → (let result : Result T LogError = Err WriteFault in HasCause (counts (disk_of mid)) (counts (disk_of after)) result)
-          → (let result : Result T LogError = Err WriteFault in Called tells log_state log_moment log_left log_counts before after (reads_of before) events begun result)
+      pub called-fault : after.usable ≡ false
+          → (let result : Result T LogError = Err WriteFault in HasCause (g.counts mid.disk) (g.counts after.disk) result)
+          → (let result : Result T LogError = Err WriteFault in Called g.tells log_state log_moment log_left log_counts before after before.reads events begun result)
       called-fault usable cause = record {
         usable = usable;
         opened = λ clear. absurd (true≢false clear);
@@ -336,7 +334,7 @@ module _ {L D : Type 0} (disk_of : L → D) (gate_of : L → ℕ) (spilled_of : 
           failed_reads = let f = ap (λ (c : Counts). c.failed_reads) same in let h = cause.failed_reads in omega (arith, f, h);
           write_faults = let f = ap (λ (c : Counts). c.write_faults) same in let h = cause.write_faults in omega (arith, f, h);
           read = λ is. cc;
-          write = λ is. subst (λ (c : Counts). HasGrown c.write_faults (counts (disk_of after)).write_faults) same (cause.write refl);
+          write = λ is. subst (λ (c : Counts). HasGrown c.write_faults (g.counts after.disk).write_faults) same (cause.write refl);
         };
         reads = reads;
         added = λ _. tt;
@@ -346,16 +344,16 @@ module _ {L D : Type 0} (disk_of : L → D) (gate_of : L → ℕ) (spilled_of : 
       }
 
   -- a call that changes nothing, and needs memory alone
-  pub called-nothing : {T : Type 0} (log : L) (result : Result T LogError) → IfErr result (λ e. (e ≡ Memory) ⊎ (e ≡ Corruption)) → (tells → IsErrOf result Corruption → ⊥) → usable_of log ≡ true → (tells → IsReady log)
-      → Called tells log_state log_moment log_left log_counts log log (reads_of log) (λ _. []) [] result
-  called-nothing log (Ok said) only sound usable ready = called-waits log log (λ _. []) [] said (rests-same seen may_leave moment left_since tells (disk_of log)) refl usable refl (λ told. sym (append-nil (pending_of log))) refl ready
-  called-nothing log (Err e) only sound usable ready = called-refused log log (λ _. []) [] e (⊎_elim (λ m. inl m) (λ c. inr (inr c)) only) (λ told is. sound told (ap (λ e. Err e) is)) (rests-same seen may_leave moment left_since tells (disk_of log)) refl usable refl (record { gate = refl; spilled = refl; records = refl }) ready
+  pub called-nothing : {T : Type 0} (log : DiskLog D g) (result : Result T LogError) → IfErr result (λ e. (e ≡ Memory) ⊎ (e ≡ Corruption)) → (g.tells → IsErrOf result Corruption → ⊥) → log.usable ≡ true
+      → Called g.tells log_state log_moment log_left log_counts log log log.reads (λ _. []) [] result
+  called-nothing log (Ok said) only sound usable = called-waits log log (λ _. []) [] said (rests-same g.seen g.may_leave g.moment g.left_since g.tells log.disk) refl usable refl (λ told. sym (append-nil (pending_of log))) refl usable
+  called-nothing log (Err e) only sound usable = called-refused log log (λ _. []) [] e (⊎_elim (λ m. inl m) (λ c. inr (inr c)) only) (λ told is. sound told (ap (λ e. Err e) is)) (rests-same g.seen g.may_leave g.moment g.left_since g.tells log.disk) refl usable refl (record { gate = refl; spilled = refl; records = refl }) usable
 
   -- a call that reads the disk at most
-  module _ (before after : L) (count : ℕ) (usable : usable_of after ≡ true) (pending : IsSame before after) (reads : reads_of after ≡ count)
-      (rest : Rests tells seen may_leave moment left_since (disk_of before) (disk_of after)) (ready : tells → IsReady before)
-      (failed : (counts (disk_of before)).failed_reads ≤ (counts (disk_of after)).failed_reads) (faults : (counts (disk_of before)).write_faults ≤ (counts (disk_of after)).write_faults) where
-    pub called-read : {T : Type 0} (said : T) → (let result : Result T LogError = Ok said in Called tells log_state log_moment log_left log_counts before after count (λ _. []) [] result)
+  module _ (before after : DiskLog D g) (count : ℕ) (usable : after.usable ≡ true) (pending : IsSame before after) (reads : after.reads ≡ count)
+      (rest : Rests g.tells g.seen g.may_leave g.moment g.left_since before.disk after.disk) (can : before.usable ≡ true)
+      (failed : (g.counts before.disk).failed_reads ≤ (g.counts after.disk).failed_reads) (faults : (g.counts before.disk).write_faults ≤ (g.counts after.disk).write_faults) where
+    pub called-read : {T : Type 0} (said : T) → (let result : Result T LogError = Ok said in Called g.tells log_state log_moment log_left log_counts before after count (λ _. []) [] result)
     called-read said = record {
       usable = usable;
       opened = λ _. same-open before after pending;
@@ -363,12 +361,12 @@ module _ {L D : Type 0} (disk_of : L → D) (gate_of : L → ℕ) (spilled_of : 
       reads = reads;
       added = λ told. kept before after [] told rest (same-pending before after (rest.same told) pending ∙ sym (append-nil (pending_of before)));
       refused = λ _. tt;
-      stop = λ told. rests before after [] told (ready told) rest;
+      stop = λ told. rests before after [] told can rest;
       sound = λ told is. cc;
     }
 
-    pub called-unread : (T : Type 0) (e : LogError) → (e ≡ Memory) ⊎ (e ≡ ReadFault) ⊎ (e ≡ Corruption) → (tells → e ≢ Corruption) → (e ≡ ReadFault → HasGrown (counts (disk_of before)).failed_reads (counts (disk_of after)).failed_reads)
-        → (let result : Result T LogError = Err e in Called tells log_state log_moment log_left log_counts before after count (λ _. []) [] result)
+    pub called-unread : (T : Type 0) (e : LogError) → (e ≡ Memory) ⊎ (e ≡ ReadFault) ⊎ (e ≡ Corruption) → (g.tells → e ≢ Corruption) → (e ≡ ReadFault → HasGrown (g.counts before.disk).failed_reads (g.counts after.disk).failed_reads)
+        → (let result : Result T LogError = Err e in Called g.tells log_state log_moment log_left log_counts before after count (λ _. []) [] result)
     called-unread T e why sound grown =
         let result : Result T LogError = Err e in
         let none : List (Event Message) = [] in
@@ -381,7 +379,7 @@ module _ {L D : Type 0} (disk_of : L → D) (gate_of : L → ℕ) (spilled_of : 
           reads = reads;
           added = λ _. tt;
           refused = λ told _. kept before after [] told rest (same-pending before after (rest.same told) pending ∙ sym (append-nil (pending_of before)));
-          stop = λ told. rests before after (begun_by result none) told (ready told) rest;
+          stop = λ told. rests before after (begun_by result none) told can rest;
           sound = λ told is. sound told (let h : e ≡ Corruption = cc in h);
         }
       where

@@ -1,11 +1,13 @@
 -- A call of a log, behind which its disk is read.
-use Rattle.std.proofs.Common.{◌≡◌, ℕ, ◌≤◌, Bool, List, ap, sym, ◌∙◌, subst, le_trans}
+use Rattle.std.proofs.Common.{◌≡◌, ℕ, ◌≤◌, List, ap, sym, ◌∙◌, subst, le_trans}
 use Rattle.std.specs.Prelude.{Result, Ok}
 use Rattle.sled_log.specs.Calls.{Called, Counts}
 use Rattle.sled_log.specs.Events.{is_open, Event}
 use Rattle.sled_log.specs.LogState.{LogState, Adds}
 use Rattle.sled_log.specs.Messages.{Message, Messages, Entry, effect_of_entry}
 use Rattle.sled_log.specs.declared.log.LogError.{LogError}
+use Rattle.sled_disk.specs.declared.disk.Disk.{Ghosts}
+use Rattle.sled_disk.specs.declared.log.DiskLog.{DiskLog}
 use Rattle.sled_disk.specs.Crash.{BytesLeft}
 use Rattle.sled_disk.specs.DiskReads.{Rests}
 use Rattle.sled_disk.specs.Pending.{state_in}
@@ -23,30 +25,29 @@ then-rests seen may_leave moment left_since old mid new P told l r = record {
 }
 
 -- and a log
-module _ {L D : Type 0} (disk_of : L → D) (gate_of : L → ℕ) (spilled_of : L → Bool) (buffer_of : L → List ℕ) (usable_of : L → Bool) (reads_of : L → ℕ)
-    (tells : Type 0) (seen : D → List ℕ) (may_leave : D → List ℕ → Type 0) (moment : D → ℕ) (left_since : D → ℕ → List ℕ → Type 0) (counts : D → Counts) where
-  abbrev states : L → LogState Entry
-  states log = state_in (seen (disk_of log)) (gate_of log) (spilled_of log) (buffer_of log) (usable_of log)
+module _ {D : Type 0} (g : Ghosts D) where
+  abbrev states : DiskLog D g → LogState Entry
+  states log = state_in (g.seen log.disk) log.next.gate log.next.spilled log.next.buffer.items log.usable
 
-  abbrev moments : L → ℕ
-  moments log = moment (disk_of log)
+  abbrev moments : DiskLog D g → ℕ
+  moments log = g.moment log.disk
 
-  abbrev lefts : L → ℕ → List Messages → Type 0
-  lefts log t pages = LeavesPages (left_since (disk_of log) t) pages
+  abbrev lefts : DiskLog D g → ℕ → List Messages → Type 0
+  lefts log t pages = LeavesPages (g.left_since log.disk t) pages
 
-  abbrev counted : L → Counts
-  counted log = record { reads = reads_of log; failed_reads = (counts (disk_of log)).failed_reads; write_faults = (counts (disk_of log)).write_faults }
+  abbrev counted : DiskLog D g → Counts
+  counted log = record { reads = log.reads; failed_reads = (g.counts log.disk).failed_reads; write_faults = (g.counts log.disk).write_faults }
 
-  pub called-then : {T : Type 0} (old mid new : L) (count : ℕ) (events : T → List (Event Entry)) (begun : List (Event Message)) (said : T)
-      → (let result : Result T LogError = Ok said in Called tells states moments lefts counted old mid count events begun result)
-      → Rests tells seen may_leave moment left_since (disk_of mid) (disk_of new) → (counts (disk_of mid)).failed_reads ≤ (counts (disk_of new)).failed_reads → (counts (disk_of mid)).write_faults ≤ (counts (disk_of new)).write_faults
-      → usable_of new ≡ usable_of mid → reads_of new ≡ reads_of mid → ((l : List ℕ) → state_in l (gate_of new) (spilled_of new) (buffer_of new) (usable_of new) ≡ state_in l (gate_of mid) (spilled_of mid) (buffer_of mid) (usable_of mid))
-      → (let result : Result T LogError = Ok said in Called tells states moments lefts counted old new count events begun result)
+  pub called-then : {T : Type 0} (old mid new : DiskLog D g) (count : ℕ) (events : T → List (Event Entry)) (begun : List (Event Message)) (said : T)
+      → (let result : Result T LogError = Ok said in Called g.tells states moments lefts counted old mid count events begun result)
+      → Rests g.tells g.seen g.may_leave g.moment g.left_since mid.disk new.disk → (g.counts mid.disk).failed_reads ≤ (g.counts new.disk).failed_reads → (g.counts mid.disk).write_faults ≤ (g.counts new.disk).write_faults
+      → new.usable ≡ mid.usable → new.reads ≡ mid.reads → ((l : List ℕ) → state_in l new.next.gate new.next.spilled new.next.buffer.items new.usable ≡ state_in l mid.next.gate mid.next.spilled mid.next.buffer.items mid.usable)
+      → (let result : Result T LogError = Ok said in Called g.tells states moments lefts counted old new count events begun result)
   called-then old mid new count events begun said c r failed faults usable reads same = record {
     usable = usable ∙ c.usable;
     opened = λ clear.
-        ap (λ (s : LogState Entry). is_open s.pending) (same (seen (disk_of new)))
-        ∙ opens-by (seen (disk_of new)) (gate_of mid) (spilled_of mid) (buffer_of mid) ∙ sym (opens-by (seen (disk_of mid)) (gate_of mid) (spilled_of mid) (buffer_of mid))
+        ap (λ (s : LogState Entry). is_open s.pending) (same (g.seen new.disk))
+        ∙ opens-by (g.seen new.disk) mid.next.gate mid.next.spilled mid.next.buffer.items ∙ sym (opens-by (g.seen mid.disk) mid.next.gate mid.next.spilled mid.next.buffer.items)
         ∙ c.opened clear;
     cause = record {
       failed_reads = le_trans c.cause.failed_reads failed;
@@ -56,7 +57,7 @@ module _ {L D : Type 0} (disk_of : L → D) (gate_of : L → ℕ) (spilled_of : 
     };
     reads = reads ∙ c.reads;
     added = λ told. subst (λ (s : LogState Entry). Adds effect_of_entry (states old) (events said) s)
-        (sym (same (seen (disk_of new)) ∙ ap (λ (l : List ℕ). state_in l (gate_of mid) (spilled_of mid) (buffer_of mid) (usable_of mid)) (r.same told))) (c.added told);
+        (sym (same (g.seen new.disk) ∙ ap (λ (l : List ℕ). state_in l mid.next.gate mid.next.spilled mid.next.buffer.items mid.usable) (r.same told))) (c.added told);
     refused = λ _. tt;
     stop = λ told. let s = c.stop told in record {
       later = le_trans s.later (r.later told);

@@ -84,6 +84,27 @@ same_meant x y e = cc
 abbrev takes : List (Event Entry) → ℕ → Entry → Option (List (Event Entry))
 takes = takes_event effect_of_entry
 
+module _ (P : LogKind → Type 0) (place : ℕ) (r : Record) (s : List (Event Entry)) (later : Meant) where
+  abbrev IsTaken : Type 0
+  IsTaken = (takes s r.id (entry_at place r) >>= λ t. Some (outside t)) ≡ Some later
+
+  -- a record outside a batch that begins none takes its change, or adds nothing
+  pub plain-by : (IsTaken → P effects.Replace) → (IsTaken → P effects.Free) → (IsTaken → P effects.Link) → (some_meant (outside s) ≡ some_meant later → P effects.Skip)
+      → (kind : MessageKind) (mark : Bool) → plain entry_at takes kind s place r mark ≡ Some later → P (log_kind_of kind)
+  plain-by replaces frees links skips kinds.Canceled mark is = skips is
+  plain-by replaces frees links skips kinds.BatchManifest true is = skips is
+  plain-by replaces frees links skips kinds.BatchManifest false is = absurd cc
+  plain-by replaces frees links skips kinds.Corrupted mark is = absurd cc
+  plain-by replaces frees links skips kinds.Cap mark is = absurd cc
+  plain-by replaces frees links skips kinds.Free mark is = frees is
+  plain-by replaces frees links skips kinds.Counter mark is = replaces is
+  plain-by replaces frees links skips kinds.InlineMeta mark is = replaces is
+  plain-by replaces frees links skips kinds.BlobMeta mark is = replaces is
+  plain-by replaces frees links skips kinds.InlineNode mark is = replaces is
+  plain-by replaces frees links skips kinds.BlobNode mark is = replaces is
+  plain-by replaces frees links skips kinds.InlineLink mark is = links is
+  plain-by replaces frees links skips kinds.BlobLink mark is = links is
+
 module _ (place : ℕ) (r : Record) (behind : List (ℕ × Record)) where
   -- the first record's part, by whether it begins a batch and whether it closes one
   abbrev count_by : Bool → Bool → Bool → List (ℕ × ℕ)
@@ -107,19 +128,8 @@ module _ (place : ℕ) (r : Record) (behind : List (ℕ × Record)) where
   skips s later is = ap (λ (q : Meant). weigh q behind) (same_meant (outside s) later is)
 
   plain-weighs : (kind : MessageKind) (s : List (Event Entry)) (mark : Bool) (later : Meant) → plain entry_at takes kind s place r mark ≡ Some later → messages_in s ++ (named_by (log_kind_of kind) r.id place ++ counted_messages true behind) ≡ weigh later behind
-  plain-weighs kinds.Canceled s mark later is = skips s later is
-  plain-weighs kinds.BatchManifest s true later is = skips s later is
-  plain-weighs kinds.BatchManifest s false later is = absurd cc
-  plain-weighs kinds.Corrupted s mark later is = absurd cc
-  plain-weighs kinds.Cap s mark later is = absurd cc
-  plain-weighs kinds.Free s mark later is = one s later is
-  plain-weighs kinds.Counter s mark later is = one s later is
-  plain-weighs kinds.InlineMeta s mark later is = one s later is
-  plain-weighs kinds.BlobMeta s mark later is = one s later is
-  plain-weighs kinds.InlineNode s mark later is = one s later is
-  plain-weighs kinds.BlobNode s mark later is = one s later is
-  plain-weighs kinds.InlineLink s mark later is = one s later is
-  plain-weighs kinds.BlobLink s mark later is = one s later is
+  plain-weighs kind s mark later is =
+      plain-by (λ kind. messages_in s ++ (named_by kind r.id place ++ counted_messages true behind) ≡ weigh later behind) place r s later (one s later) (one s later) (one s later) (skips s later) kind mark is
 
   none-kept : (kept : Bool) (xs : List (ℕ × ℕ)) → xs ≡ kept_names kept [] ++ xs
   none-kept true xs = refl

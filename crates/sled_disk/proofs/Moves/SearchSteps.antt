@@ -14,11 +14,14 @@ use Rattle.sled_log.specs.Calls.{Counts, HasGrown}
 use Rattle.sled_log.specs.Moves.{Moves}
 use Rattle.sled_log.specs.declared.log.LogError.{LogError}
 use Rattle.sled_log.specs.declared.log.LogError.TheVariants.{ReadFault, Corruption}
+use Rattle.sled_disk.specs.declared.disk.Disk.{Ghosts}
+use Rattle.sled_disk.specs.declared.log.DiskLog.{DiskLog}
 use Rattle.sled_disk.specs.declared.log.names.Names.{Names}
 use Rattle.sled_disk.specs.declared.format.next_frame.NextFrame.{NextFrame}
 use Rattle.sled_disk.specs.Names.{messages_in, all_messages, from_place, one_or_none, moves_in, looks_at, frame_of, behind_gate, behind_begin, behind_closing, behind_record, IsStep}
 use Rattle.sled_disk.specs.DiskReads.{ReadFaults}
-use Rattle.sled_disk.specs.Reading.{frames_of, records_of}
+use Rattle.sled_disk.specs.PendingFrame.{batch_of}
+use Rattle.sled_disk.specs.Reading.{chains_of, frames_of, records_of}
 use Rattle.sled_disk.specs.Pending.{is_own, batch_events, pending_events, pending_in}
 use Rattle.sled_disk.specs.LogContents.{or_none, Stands, events_in, progress_in, inside_of, records_behind}
 use Rattle.sled_disk.specs.LogContentsLaws.{Parsed, parsed, ends-at, gate-small, frames-read, progress-in, spilled-is}
@@ -76,7 +79,7 @@ counted-all seen gate spilled buffer batch heads fits stands own =
     ∙ ap (λ b. messages_in (q.settled ++ (batch_events b (inside_of q.begun) ++ pending_events (gate_after 8 frames + 9) rs))) (spilled-is seen gate spilled rs batch heads p)
     ∙ ap (λ n. messages_in (q.settled ++ (batch_events spilled (inside_of q.begun) ++ pending_events (n + 9) rs))) (ap (gate_after 8) frames_are ∙ ends-at seen gate spilled rs batch heads p)
 
-module _ (seen : List ℕ) (gate : ℕ) (buffer : List ℕ) (at_gate at : ℕ) (k : IsKept seen gate buffer at_gate at) where
+module _ {seen : List ℕ} {gate : ℕ} {buffer : List ℕ} {at_gate at : ℕ} (k : IsKept seen gate buffer at_gate at) where
   abbrev pub frames : List Frame
   frames = or_none (frames_of (drop 8 seen))
 
@@ -375,66 +378,119 @@ gate-same names gate = by names.seeks
     by true = (refl, refl)
     by false = (refl, refl)
 
--- what a log keeps of both places, and of what it has still to name
-pub record Steps (seen : List ℕ) (next : NextFrame) (old new : Names) : Type 0 where
-  pub stood : IsAmong seen (records_behind next.buffer.items) new.gate new.at
-  pub looked : IsLooked seen (records_behind next.buffer.items) new
-  pub moves : moves_in seen next new ≡ moves_in seen next old
-  pub step : IsStep old new
+-- the end of what is pending is a number
+length-bound : (next : NextFrame) → next.gate + 1 + length next.buffer.items < 2 ^ 64
+length-bound next = elim (cases_lt 8 (length next.buffer.items)) [
+  | inl some ↦ let fits = next.fits some in omega (arith, fits)
+  | inr few ↦ let small = next.small in omega (arith, small, few)
+]
 
-module _ (seen : List ℕ) (next : NextFrame) (names : Names) (k : IsKept seen next.gate next.buffer.items (frame_of names) (looks_at names)) (spilled : k.spilled ≡ next.spilled)
-    (stood : IsAmong seen (records_behind next.buffer.items) names.gate names.at) (looked : IsLooked seen (records_behind next.buffer.items) names) (none : names.read ≡ None) where
+-- what a log keeps of both places, and of what it has still to name
+pub record Keeps (seen after : List ℕ) (next : NextFrame) (old new : Names) : Type 0 where
+  pub stood : IsAmong after (records_behind next.buffer.items) new.gate new.at
+  pub looked : IsLooked after (records_behind next.buffer.items) new
+  pub moves : moves_in seen next new ≡ moves_in seen next old
+
+-- a log that may be called, and whose disk tells its bytes
+module _ {D : Type 0} {g : Ghosts D} (log : DiskLog D g) (told : g.tells) (usable : log.usable ≡ true) (fits : IsBytes (g.seen log.disk)) where
+  abbrev seen : List ℕ
+  seen = g.seen log.disk
+
+  abbrev next : NextFrame
+  next = log.next
+
+  abbrev names : Names
+  names = log.names
+
   abbrev pending : List Record
   pending = records_behind next.buffer.items
 
-  all-named : counted_messages true (placed_in seen pending) ≡ all_messages seen next
-  all-named = counted-all seen next.gate k.spilled next.buffer.items k.batch k.heads k.fits k.stands k.own ∙ ap (λ b. messages_in (events_in seen ++ pending_in seen next.gate b next.buffer.items)) spilled
+  -- a place among its records
+  pub kept-at : (at_gate at : ℕ) → IsAmong seen pending at_gate at → IsKept seen next.gate next.buffer.items at_gate at
+  kept-at at_gate at stood = record { spilled = next.spilled; batch = batch_of next; heads = chains_of log.pages.items; fits = fits; stands = log.stands told usable; own = next.own; are_bytes = next.are_bytes; front = next.front; parsed = next.parsed; stood = stood }
 
-  went-moves : (new : Names) (named : List (ℕ × ℕ)) → new.appended ≡ names.appended → one_or_none new.read ≡ named → (let all = counted_messages true (placed_in seen pending) in from_place names.at all ≡ named ++ from_place new.at all) → moves_in seen next new ≡ moves_in seen next names
-  went-moves new named appended read went =
-      passed-moves seen next names new named none appended read
-      (subst (λ (l : List (ℕ × ℕ)). from_place names.at l ≡ named ++ from_place new.at l) all-named went)
+  -- and the one that it looks at
+  pub kept : IsKept seen next.gate next.buffer.items (frame_of names) (looks_at names)
+  kept = kept-at (frame_of names) (looks_at names) (looked-at seen pending names (log.stood told usable) (log.looked told usable))
+
+  all-named : counted_messages true (placed_in seen pending) ≡ all_messages seen next
+  all-named = counted-all seen next.gate next.spilled next.buffer.items (batch_of next) (chains_of log.pages.items) fits (log.stands told usable) next.own
 
   abbrev Among : ℕ → ℕ → Type 0
   Among gate at = is_among 8 (or_none (frames_of (drop 8 seen))) pending gate at ≡ true
 
-  pub record-steps : (raw : RawHead) (len : ℕ) (read : Option (ℕ × ℕ)) → Passed seen next.gate next.buffer.items (frame_of names) (looks_at names) raw len → one_or_none read ≡ passed_by (placed_in seen pending) names raw.kind raw.page
-      → Steps seen next names (record (behind_record names raw.kind len) { read = read })
-  record-steps raw len read passed read_is =
-      let went = went-record (placed_in seen pending) names looked.looks passed.it raw.kind len passed.kind passed.records in
-      let new : Names = record (behind_record names raw.kind len) { read = read } in
-      record {
-        stood = record { known = record-at Among names raw.kind len stood.known passed.among.known };
-        looked = record {
-          looks = looks-alike (placed_in seen pending) (behind_record names raw.kind len) new refl went.looks;
-          among = record-ahead Among names raw.kind len passed.among.known;
-        };
-        moves = went-moves new (passed_by (placed_in seen pending) names raw.kind passed.it.id) (record-appended names raw.kind len)
-            (read_is ∙ ap (λ n. passed_by (placed_in seen pending) names raw.kind n) passed.page) went.messages;
-        step = record-step names raw.kind len looked.looks.behind;
-      }
+  -- nothing was read before, the frame of that place ends there, and this is what the disk tells afterwards
+  module _ (none : names.read ≡ None) (gate at end : ℕ) (gate_is : gate ≡ frame_of names) (at_is : at ≡ looks_at names) (ends : IsEnd seen next.gate next.buffer.items gate end) (after : List ℕ) (same : after ≡ seen) where
+    is-end : IsEnd seen next.gate next.buffer.items (frame_of names) end
+    is-end = subst (λ n. IsEnd seen next.gate next.buffer.items n end) gate_is ends
 
-  module _ (end : ℕ) (is_end : IsEnd seen next.gate next.buffer.items (frame_of names) end) (past : end ≤ looks_at names) where
-    pub gate-steps : end ≤ next.gate → Steps seen next names (behind_gate names end)
-    gate-steps le =
-        let among = next-among seen next.gate next.buffer.items (frame_of names) (looks_at names) k end is_end past le in
-        let further = next-further seen next.gate next.buffer.items (frame_of names) (looks_at names) k end is_end past in
-        let went = went-gate (placed_in seen pending) names looked.looks end (next-same seen next.gate next.buffer.items (frame_of names) (looks_at names) k end is_end past) (omega (arith, further)) in
-        let same = gate-same names end in
-        record {
-          stood = record { known = gate-at Among names end stood.known among.known };
-          looked = record { looks = went.looks; among = gate-ahead Among names end among.known };
-          moves = went-moves (behind_gate names end) [] same.0 (ap one_or_none (same.1 ∙ none)) went.messages;
-          step = gate-step names end further;
-        }
+    -- whatever was named, and whichever places it leaves
+    went : (new : Names) (named : List (ℕ × ℕ)) → Among new.gate new.at → IsLooked seen pending new → new.appended ≡ names.appended → one_or_none new.read ≡ named
+        → (let all = counted_messages true (placed_in seen pending) in from_place names.at all ≡ named ++ from_place new.at all) → Keeps seen after next names new
+    went new named stood looked appended read parts = record {
+      stood = subst (λ (l : List ℕ). IsAmong l pending new.gate new.at) (sym same) (record { known = stood });
+      looked = subst (λ (l : List ℕ). IsLooked l pending new) (sym same) looked;
+      moves = passed-moves seen next names new named none appended read
+          (subst (λ (l : List (ℕ × ℕ)). from_place names.at l ≡ named ++ from_place new.at l) all-named parts);
+    }
 
-    pub end-keeps : next.gate < end → (let new : Names = record names { seeks = false } in IsAmong seen pending new.gate new.at × IsLooked seen pending new × (moves_in seen next new ≡ moves_in seen next names))
-    end-keeps last =
-        let went = went-end (placed_in seen pending) names looked.looks (none-behind seen next.gate next.buffer.items (frame_of names) (looks_at names) k end is_end past last) in
-        (stood, record { looks = went.looks; among = λ e. absurd cc }, went-moves (record names { seeks = false }) [] refl (ap one_or_none none) went.messages)
+    -- a record was gone over
+    pub record-steps : at < end → (raw : RawHead) (len : ℕ) → IsHead seen next.gate next.buffer.items at raw len → (new : Names) → (looks_at names + (17 + len) < 2 ^ 64 → new ≡ record (behind_record names raw.kind len) { read = new.read })
+        → one_or_none new.read ≡ passed_by (placed_in seen pending) names raw.kind raw.page → Keeps seen after next names new × IsStep names new
+    record-steps lt raw len head new is read = subst (λ (n : Names). Keeps seen after next names n × IsStep names n) (sym (is fits-all)) (keeps, record-step names raw.kind len looked.looks.behind)
+      where
+        passed-over : Passed seen next.gate next.buffer.items (frame_of names) (looks_at names) raw len
+        passed-over = passed kept end is-end (subst (λ n. n < end) at_is lt) raw len (subst (λ n. IsHead seen next.gate next.buffer.items n raw len) at_is head)
 
-    pub none-waits : next.gate < end → names.seeks ≡ false → (moves_in seen next names).waiting ≡ []
-    none-waits last closed =
-        ap (λ r. one_or_none r ++ from_place names.at (all_messages seen next)) none
-        ∙ ap (from_place names.at) (sym all-named)
-        ∙ none-left (placed_in seen pending) names looked.looks closed (none-behind seen next.gate next.buffer.items (frame_of names) (looks_at names) k end is_end past last)
+        fits-all : looks_at names + (17 + len) < 2 ^ 64
+        fits-all = let within = passed-over.within in let room = length-bound next in omega (arith, within, room)
+
+        looked : IsLooked seen pending names
+        looked = log.looked told usable
+
+        now : Names
+        now = record (behind_record names raw.kind len) { read = new.read }
+
+        keeps : Keeps seen after next names now
+        keeps =
+            let p = passed-over in
+            let gone = went-record (placed_in seen pending) names looked.looks p.it raw.kind len p.kind p.records in
+            went now (passed_by (placed_in seen pending) names raw.kind p.it.id) (record-at Among names raw.kind len (log.stood told usable).known p.among.known)
+            (record { looks = looks-alike (placed_in seen pending) (behind_record names raw.kind len) now refl gone.looks; among = record-ahead Among names raw.kind len p.among.known })
+            (record-appended names raw.kind len) (read ∙ ap (λ n. passed_by (placed_in seen pending) names raw.kind n) p.page) gone.messages
+
+    -- the frame was gone over
+    module _ (past : end ≤ at) where
+      behind : end ≤ looks_at names
+      behind = subst (λ n. end ≤ n) at_is past
+
+      -- and the next one is entered
+      pub gate-steps : end ≤ next.gate → (new : Names) → new ≡ behind_gate names end → Keeps seen after next names new × IsStep names new
+      gate-steps le new is =
+          let among = next-among kept end is-end behind le in
+          let further = next-further kept end is-end behind in
+          let gone = went-gate (placed_in seen pending) names (log.looked told usable).looks end (next-same kept end is-end behind) (omega (arith, further)) in
+          let same = gate-same names end in
+          subst (λ (n : Names). Keeps seen after next names n × IsStep names n) (sym is) (
+            went (behind_gate names end) [] (gate-at Among names end (log.stood told usable).known among.known) (record { looks = gone.looks; among = gate-ahead Among names end among.known })
+                same.0 (ap one_or_none (same.1 ∙ none)) gone.messages,
+            gate-step names end further,
+          )
+
+      -- there is no other
+      module _ (last : next.gate < end) where
+        none-follow : placed_from (looks_at names) (placed_in seen pending) ≡ []
+        none-follow = none-behind kept end is-end behind last
+
+        pub end-keeps : (new : Names) → new ≡ record names { seeks = false } → Keeps seen after next names new
+        end-keeps new is =
+            let gone = went-end (placed_in seen pending) names (log.looked told usable).looks none-follow in
+            let now : Names = record names { seeks = false } in
+            subst (λ (n : Names). Keeps seen after next names n) (sym is)
+            (went now [] (log.stood told usable).known (record { looks = gone.looks; among = λ e. absurd cc }) refl (ap one_or_none none) gone.messages)
+
+        pub none-waits : names.seeks ≡ false → (moves_in seen next names).waiting ≡ []
+        none-waits closed =
+            ap (λ r. one_or_none r ++ from_place names.at (all_messages seen next)) none
+            ∙ ap (from_place names.at) (sym all-named)
+            ∙ none-left (placed_in seen pending) names (log.looked told usable).looks closed none-follow

@@ -10,13 +10,14 @@ use Rattle.sled_disk.specs.declared.recovery.head.Head.{Head}
 use Rattle.sled_disk.specs.declared.reader.Reader.{Reader}
 use Rattle.sled_disk.specs.declared.format.record.RawHead.{RawHead}
 use Rattle.sled_disk.specs.declared.reader.window.Window.{Window}
-use Rattle.sled_disk.specs.Format.{Record, number, is_mark, marks, outside, within as within_batch, room_for, IsBytes}
+use Rattle.sled_disk.specs.Format.{number, is_mark, outside, within as within_batch, room_for, IsBytes}
 use Rattle.sled_disk.specs.ReaderState.{GoesOn, begun_by, read_by}
 use Rattle.sled_disk.specs.Abandoned.{room_behind}
-use Rattle.sled_disk.specs.UnreadBytes.{piece, left_at}
+use Rattle.sled_disk.specs.UnreadBytes.{left_at}
 use Rattle.sled_disk.specs.DiskReads.{BodyOnDisk, HasBody, HasHead, HeadOnDisk}
-use Rattle.sled_disk.specs.Reading.{Made, Read, start, found_at, raw_record, step}
+use Rattle.sled_disk.specs.Reading.{Made, Read, start, found_at, raw_record}
 use Rattle.std.proofs.lemmas.List.{nil_from_length}
+use Rattle.sled_disk.proofs.Readers.RecordEffects.{Makes}
 use Rattle.sled_disk.proofs.Readers.ReadParts.{gates-closed, gates-end, gates-far, gates-torn}
 use Rattle.sled_disk.proofs.Readers.UnreadBytes.{left-awaited, left-gate, left-opened, left-unread, read-reached, read-missed, read-refused, read-taken, read-alike, read-misnamed, read-named}
 
@@ -36,9 +37,13 @@ unmade (Err e) now part h is = by e h cc
     by errors.ReadFault h is = absurd h
     by errors.WriteFault h is = absurd h
 
--- a window shows the same of a disk that has the same bytes
-pub shows-still : (window : Window) (old seen : List ℕ) → old ≡ seen → window.bytes.items ≡ take (length window.bytes.items) (drop window.start old) → window.bytes.items ≡ take (length window.bytes.items) (drop window.start seen)
-shows-still window old seen same shows = subst (λ (l : List ℕ). window.bytes.items ≡ take (length window.bytes.items) (drop window.start l)) same shows
+-- a window shows these bytes
+abbrev pub IsShown : List ℕ → Window → Type 0
+IsShown seen window = window.bytes.items ≡ take (length window.bytes.items) (drop window.start seen)
+
+-- and the same of a disk that has the same bytes
+pub shows-still : (window : Window) (old seen : List ℕ) → old ≡ seen → IsShown old window → IsShown seen window
+shows-still window old seen same shows = subst (λ (l : List ℕ). IsShown l window) same shows
 
 -- what all bytes make
 abbrev whole : List ℕ → Option (ℕ × Read)
@@ -50,54 +55,93 @@ goes-unread seen self on found is head lt =
     let inside = self.inside in
     sym on.left ∙ left-unread seen self.at self.body_end self.targets (read_by self) lt (omega arith) (subst (HeadOnDisk seen self.at self.body_end) is head)
 
+-- the same place, and the same targets
+left-same : (seen : List ℕ) (so_far : Read) (here there end last : ℕ) (targets others : List ℕ) → here ≡ there → end ≡ last → targets ≡ others → left_at seen here end targets so_far ≡ left_at seen there last others so_far
+left-same seen so_far here there end last targets others a b c =
+    ap (λ n. left_at seen n end targets so_far) a ∙ ap (λ n. left_at seen there n targets so_far) b ∙ ap (λ (l : List ℕ). left_at seen there last l so_far) c
+
+-- the body ends among the bytes
+body-ends : (seen : List ℕ) (self : Reader) → GoesOn seen self → self.body_end ≤ length seen
+body-ends seen self on = let end = on.end in let inside = self.inside in omega arith
+
+-- what another reader has that goes on with the same bytes
+pub record Behind (seen : List ℕ) (self new : Reader) (place : ℕ) (others : List ℕ) : Type 0 where
+  pub end : new.end ≡ self.end
+  pub shows : IsShown seen new.window
+  pub at : new.at ≡ place
+  pub body_end : new.body_end ≡ self.body_end
+  pub targets : new.targets ≡ others
+
+-- where it makes the same of what is left
+goes-behind : {seen : List ℕ} {self : Reader} → GoesOn seen self → (new : Reader) (place : ℕ) (others : List ℕ) (other : Read) → Behind seen self new place others → read_by new ≡ other → left_at seen place self.body_end others other ≡ whole seen → GoesOn seen new
+goes-behind {seen = seen} {self = self} on new place others other b is left = record {
+  opens = on.opens;
+  end = b.end ∙ on.end;
+  shows = b.shows;
+  left = left-same seen (read_by new) new.at place new.body_end self.body_end new.targets others b.at b.body_end b.targets ∙ ap (left_at seen place self.body_end others) is ∙ left;
+}
+
 module _ (seen : List ℕ) (self : Reader) (on : GoesOn seen self) (found : Option (RawHead × ℕ)) (raw : RawHead) (len : ℕ) (is : found ≡ Some (raw, len)) (head : HeadOnDisk seen self.at self.body_end found) (has : HasHead self.at self.body_end found)
     (targets : List ℕ) (reached : (test : ℕ → Bool) → test self.at ≡ true → list_all test targets ≡ list_all test self.targets) where
-  abbrev so_far : Read
-  so_far = read_by self
+  within : self.at + (17 + len) ≤ self.body_end
+  within = subst (HasHead self.at self.body_end) is has
 
-  abbrev at : ℕ
-  at = self.at
-
-  within : at + (17 + len) ≤ self.body_end
-  within = subst (HasHead at self.body_end) is has
-
-  ends : self.body_end ≤ length seen
-  ends = let end = on.end in let inside = self.inside in omega arith
-
-  there : HeadOnDisk seen at self.body_end (Some (raw, len))
-  there = subst (HeadOnDisk seen at self.body_end) is head
+  there : HeadOnDisk seen self.at self.body_end (Some (raw, len))
+  there = subst (HeadOnDisk seen self.at self.body_end) is head
 
   -- the places that name it are met
-  pub goes-reached : left_at seen at self.body_end targets so_far ≡ whole seen
-  goes-reached = sym (read-reached seen at self.body_end raw len within ends there self.targets targets so_far reached) ∙ on.left
+  goes-reached : left_at seen self.at self.body_end targets (read_by self) ≡ whole seen
+  goes-reached = sym (read-reached seen self.at self.body_end raw len within (body-ends seen self on) there self.targets targets (read_by self) reached) ∙ on.left
 
-  pub goes-missed : ((test : ℕ → Bool) → ((target : ℕ) → target < at → test target ≡ false) → list_all test targets ≡ false) → whole seen ≡ None
-  goes-missed missed = sym goes-reached ∙ read-missed seen at self.body_end raw len within ends there targets so_far missed
+  pub goes-met : {new : Reader} {after : List ℕ} → after ≡ seen → Behind seen self new self.at targets → read_by new ≡ read_by self → GoesOn after new
+  goes-met {new = new} same behind is = subst (λ (l : List ℕ). GoesOn l new) (sym same) (goes-behind on new self.at targets (read_by self) behind is goes-reached)
 
-  -- what it makes, whatever its payload and what follows
-  abbrev Makes : Option Read → Type 0
-  Makes made = (payload : List ℕ) (mark : List Record → Bool) (rs : List Record) → length payload ≡ len → payload ≡ piece seen (at + 17) (at + (17 + len)) → mark rs ≡ marks at (raw_record raw payload) rs → step so_far at (raw_record raw payload) (mark rs) ≡ made
+  pub goes-missed : ((test : ℕ → Bool) → ((target : ℕ) → target < self.at → test target ≡ false) → list_all test targets ≡ false) → whole seen ≡ None
+  goes-missed missed = sym goes-reached ∙ read-missed seen self.at self.body_end raw len within (body-ends seen self on) there targets (read_by self) missed
 
-  pub goes-refused : Makes None → whole seen ≡ None
-  goes-refused refused = sym goes-reached ∙ read-refused seen at self.body_end raw len within ends there targets so_far refused
+-- the record that a reader takes next, by its head, and what was read so far
+pub record IsNext (seen : List ℕ) (self : Reader) (raw : RawHead) (len : ℕ) (so_far : Read) : Type 0 where
+  pub on : GoesOn seen self
+  pub head : HeadOnDisk seen self.at self.body_end (Some (raw, len))
+  pub has : HasHead self.at self.body_end (Some (raw, len))
+  pub ahead : AllByRecursion (λ target. self.at < target) self.targets
+  pub read : read_by self ≡ so_far
 
-  pub goes-taken : (after : Read) → Makes (Some after) → AllByRecursion (λ target. at < target) targets → left_at seen (at + (17 + len)) self.body_end targets after ≡ whole seen
-  goes-taken after taken ahead = sym (read-taken seen at self.body_end raw len within ends there targets so_far after taken ahead) ∙ goes-reached
+module _ {seen : List ℕ} {self : Reader} {raw : RawHead} {len : ℕ} {so_far : Read} (next : IsNext seen self raw len so_far) where
+  ends : self.body_end ≤ length seen
+  ends = body-ends seen self next.on
+
+  left-here : left_at seen self.at self.body_end self.targets so_far ≡ whole seen
+  left-here = ap (left_at seen self.at self.body_end self.targets) (sym next.read) ∙ next.on.left
+
+  pub goes-refused : Makes seen raw self.at len so_far None → whole seen ≡ None
+  goes-refused refused = sym left-here ∙ read-refused seen self.at self.body_end raw len next.has ends next.head self.targets so_far refused
+
+  pub goes-taken : {new : Reader} {after : Read} → Makes seen raw self.at len so_far (Some after) → Behind seen self new (self.at + (17 + len)) self.targets → read_by new ≡ after → GoesOn seen new
+  goes-taken {new = new} {after = after} taken behind is =
+      goes-behind next.on new (self.at + (17 + len)) self.targets after behind is (sym (read-taken seen self.at self.body_end raw len next.has ends next.head self.targets so_far after taken next.ahead) ∙ left-here)
 
   -- what was read is otherwise, and the record makes the same of it
-  pub goes-alike : (other : Read) → ((payload : List ℕ) (mark : List Record → Bool) (rs : List Record) → length payload ≡ len → payload ≡ piece seen (at + 17) (at + (17 + len)) → step other at (raw_record raw payload) (mark rs) ≡ step so_far at (raw_record raw payload) (mark rs))
-      → left_at seen at self.body_end targets other ≡ whole seen
-  goes-alike other alike = read-alike seen at self.body_end raw len within ends there targets other so_far alike ∙ goes-reached
+  pub goes-alike : {new : Reader} {other : Read} {made : Option Read} → Makes seen raw self.at len so_far made → Makes seen raw self.at len other made → Behind seen self new self.at self.targets → read_by new ≡ other → GoesOn seen new
+  goes-alike {new = new} {other = other} {made = made} one two behind is =
+      goes-behind next.on new self.at self.targets other behind is (read-alike seen self.at self.body_end raw len next.has ends next.head self.targets other so_far made two one ∙ left-here)
 
-  -- it marks one
-  module _ (settled : List (List Head)) (closed : read_by self ≡ outside settled) (marked : (payload : List ℕ) → length payload ≡ len → true ≡ is_mark (raw_record raw payload)) (eight : len ≡ 8) (target : ℕ) (read : target ≡ number (take 8 (drop (at + 17) seen))) where
-    pub goes-misnamed : target < at → whole seen ≡ None
-    goes-misnamed before = sym goes-reached ∙ ap (left_at seen at self.body_end targets) closed ∙ read-misnamed seen at self.body_end raw len within ends there targets settled target marked eight read before
+-- it marks one
+module _ {seen : List ℕ} {self : Reader} {raw : RawHead} {len : ℕ} {settled : List (List Head)} (next : IsNext seen self raw len (outside settled)) (marked : (payload : List ℕ) → length payload ≡ len → true ≡ is_mark (raw_record raw payload)) (eight : len ≡ 8) (target : ℕ)
+    (number_is : target ≡ number (take 8 (drop (self.at + 17) seen))) where
+  pub goes-misnamed : target < self.at → whole seen ≡ None
+  goes-misnamed before = sym (left-here next) ∙ read-misnamed seen self.at self.body_end raw len next.has (ends next) next.head self.targets settled target marked eight number_is before
 
-    pub goes-named : (others : List ℕ) → AllByRecursion (λ target. at < target) targets → ((test : ℕ → Bool) → list_all test others ≡ ((target == at || test target) && list_all test targets)) → left_at seen (at + 25) self.body_end others (outside settled) ≡ whole seen
-    goes-named others ahead named = sym (read-named seen at self.body_end raw len within ends there targets others settled target marked eight read ahead named) ∙ ap (left_at seen at self.body_end targets) (sym closed) ∙ goes-reached
+  pub goes-named : {new : Reader} (others : List ℕ) → ((test : ℕ → Bool) → list_all test others ≡ ((target == self.at || test target) && list_all test self.targets)) → Behind seen self new (self.at + 25) others → read_by new ≡ outside settled → GoesOn seen new
+  goes-named {new = new} others named behind is =
+      goes-behind next.on new (self.at + 25) others (outside settled) behind is (sym (read-named seen self.at self.body_end raw len next.has (ends next) next.head self.targets others settled target marked eight number_is next.ahead named) ∙ left-here next)
 
 -- ---- before a gate
+
+-- as much room is needed as the code knows
+room-known : (begun : Option ℕ) (inside : List (ℕ × Head)) → room_for (begun_by begun inside) ≡ room_behind begun
+room-known None inside = refl
+room-known (Some place) inside = refl
 
 module _ (seen : List ℕ) (self : Reader) (on : GoesOn seen self) (gate-here : self.at ≡ self.body_end) where
   abbrev heads : Read
@@ -125,11 +169,11 @@ module _ (seen : List ℕ) (self : Reader) (on : GoesOn seen self) (gate-here : 
       stands : self.at < length seen
       stands = let end = on.end in omega arith
 
-      pub goes-closed : gate ≡ 0 → self.at + room_for (read_by self).begun < 2 ^ 63 → whole seen ≡ Some (self.at, heads)
-      goes-closed closed small = sym at-gate ∙ gates-closed seen self.at heads gate stands is closed small
+      pub goes-closed : gate ≡ 0 → self.at + room_behind self.begun < 2 ^ 63 → whole seen ≡ Some (self.at, heads)
+      goes-closed closed small = let room = room-known self.begun self.changes.items in sym at-gate ∙ gates-closed seen self.at heads gate stands is closed (omega (arith, room, small))
 
-      pub goes-far : gate ≡ 0 → 2 ^ 63 ≤ self.at + room_for (read_by self).begun → whole seen ≡ None
-      goes-far closed far = sym at-gate ∙ gates-far seen self.at heads gate stands is closed far
+      pub goes-far : gate ≡ 0 → 2 ^ 63 ≤ self.at + room_behind self.begun → whole seen ≡ None
+      goes-far closed far = let room = room-known self.begun self.changes.items in sym at-gate ∙ gates-far seen self.at heads gate stands is closed (omega (arith, room, far))
 
       pub goes-torn : (found : Option ℕ) → found ≡ None → BodyOnDisk seen (self.at + 1) found → gate ≢ 0 → whole seen ≡ None
       goes-torn found none torn opened = sym at-gate ∙ gates-torn seen self.at heads gate stands is opened (subst (BodyOnDisk seen (self.at + 1)) none torn)
@@ -140,11 +184,6 @@ module _ (seen : List ℕ) (self : Reader) (on : GoesOn seen self) (gate-here : 
           ∙ left-opened seen self.at len heads gate stands is opened (let end = on.end in let all = (subst (HasBody (self.at + 1) self.end) some has).1 in omega arith) (subst (BodyOnDisk seen (self.at + 1)) some body) fits
           ∙ at-gate
 
--- as much room is needed as the code knows
-pub room-known : (begun : Option ℕ) (inside : List (ℕ × Head)) → room_for (begun_by begun inside) ≡ room_behind begun
-room-known None inside = refl
-room-known (Some place) inside = refl
-
 -- how far was read, by its parts
 abbrev pub read_with : List (List Head) → Option ℕ → List (ℕ × Head) → Read
 read_with settled begun inside = record { settled = settled; begun = begun_by begun inside }
@@ -154,11 +193,6 @@ read-closed settled begun inside closed = ap (λ (b : Option ℕ). read_with set
 
 pub read-opened : (settled : List (List Head)) (begun : Option ℕ) (place : ℕ) (inside : List (ℕ × Head)) → begun ≡ Some place → read_with settled begun inside ≡ within_batch settled place inside
 read-opened settled begun place inside opened = ap (λ (b : Option ℕ). read_with settled b inside) opened
-
--- the same place, and the same targets
-pub left-same : (seen : List ℕ) (so_far : Read) (here there end last : ℕ) (targets others : List ℕ) → here ≡ there → end ≡ last → targets ≡ others → left_at seen here end targets so_far ≡ left_at seen there last others so_far
-left-same seen so_far here there end last targets others a b c =
-    ap (λ n. left_at seen n end targets so_far) a ∙ ap (λ n. left_at seen there n targets so_far) b ∙ ap (λ (l : List ℕ). left_at seen there last l so_far) c
 
 -- a call succeeded, or it failed
 pub either_way : {T E P : Type 0} (r : Result T E) → (is_ok r ≡ true → P) → (is_ok r ≡ false → P) → P

@@ -14,6 +14,7 @@ use Rattle.sled_disk.specs.DiskReads.{HeadOnDisk}
 use Rattle.sled_disk.specs.RecordLaws.{and_then, records_of-more, records_of-none}
 use Rattle.sled_disk.specs.Reading.{Read, raw_record, record_at, records_of, records_in, step, steps, steps_of, found_at, body_at}
 use Rattle.sled_disk.proofs.Chains.ChainHeads.{plain-mark}
+use Rattle.sled_disk.proofs.Readers.RecordEffects.{Makes}
 use Rattle.sled_disk.proofs.Readers.ReadParts.{gates-refused, gates-taken}
 
 abbrev Found : Type 0
@@ -216,17 +217,16 @@ module _ (seen : List ℕ) (at end : ℕ) (raw : RawHead) (len : ℕ) (within : 
   pub read-missed : (targets : List ℕ) (so_far : Read) → ((test : ℕ → Bool) → ((target : ℕ) → target < at → test target ≡ false) → list_all test targets ≡ false) → left_at seen at end targets so_far ≡ None
   read-missed = left-missed seen at end here is
 
-  pub read-refused : (targets : List ℕ) (so_far : Read) → ((payload : List ℕ) (mark : List Record → Bool) (rs : List Record) → length payload ≡ len → payload ≡ piece seen (at + 17) (at + (17 + len)) → mark rs ≡ marks at (raw_record raw payload) rs → step so_far at (raw_record raw payload) (mark rs) ≡ None) → left_at seen at end targets so_far ≡ None
-  read-refused targets so_far refused = left-refused seen at end here is targets so_far (λ rs. refused payload (marks at here) rs long refl refl)
+  pub read-refused : (targets : List ℕ) (so_far : Read) → Makes seen raw at len so_far None → left_at seen at end targets so_far ≡ None
+  read-refused targets so_far refused = left-refused seen at end here is targets so_far (λ rs. refused.makes payload (marks at here) rs long refl refl)
 
-  pub read-taken : (targets : List ℕ) (so_far after : Read) → ((payload : List ℕ) (mark : List Record → Bool) (rs : List Record) → length payload ≡ len → payload ≡ piece seen (at + 17) (at + (17 + len)) → mark rs ≡ marks at (raw_record raw payload) rs → step so_far at (raw_record raw payload) (mark rs) ≡ Some after) → AllByRecursion (λ target. at < target) targets
-      → left_at seen at end targets so_far ≡ left_at seen (at + (17 + len)) end targets after
+  pub read-taken : (targets : List ℕ) (so_far after : Read) → Makes seen raw at len so_far (Some after) → AllByRecursion (λ target. at < target) targets → left_at seen at end targets so_far ≡ left_at seen (at + (17 + len)) end targets after
   read-taken targets so_far after taken ahead =
-      left-taken seen at end here is targets so_far after (λ rs. taken payload (marks at here) rs long refl refl) ahead ∙ ap (λ n. left_at seen (at + (17 + n)) end targets after) long
+      left-taken seen at end here is targets so_far after (λ rs. taken.makes payload (marks at here) rs long refl refl) ahead ∙ ap (λ n. left_at seen (at + (17 + n)) end targets after) long
 
-  pub read-alike : (targets : List ℕ) (so_far other : Read) → ((payload : List ℕ) (mark : List Record → Bool) (rs : List Record) → length payload ≡ len → payload ≡ piece seen (at + 17) (at + (17 + len)) → step so_far at (raw_record raw payload) (mark rs) ≡ step other at (raw_record raw payload) (mark rs))
-      → left_at seen at end targets so_far ≡ left_at seen at end targets other
-  read-alike targets so_far other alike = left-alike seen at end here is targets so_far other (λ rs. alike payload (marks at here) rs long refl)
+  pub read-alike : (targets : List ℕ) (so_far other : Read) (made : Option Read) → Makes seen raw at len so_far made → Makes seen raw at len other made → left_at seen at end targets so_far ≡ left_at seen at end targets other
+  read-alike targets so_far other made one two =
+      left-alike seen at end here is targets so_far other (λ rs. one.makes payload (marks at here) rs long refl refl ∙ sym (two.makes payload (marks at here) rs long refl refl))
 
   -- what a mark names
   target-is : (target : ℕ) → len ≡ 8 → target ≡ number (take 8 (drop (at + 17) seen)) → number payload ≡ target

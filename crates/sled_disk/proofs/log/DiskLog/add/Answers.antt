@@ -1,5 +1,4 @@
 use Rattle.std.proofs.Common.{rules, ◌≡◌, ◌+◌, ◌<◌, ◌^◌, ◌++◌, ◌∷◌, [], ℕ, List, true, length, arith, sym, ◌∙◌, ap, subst}
-use Rattle.std.specs.Prelude.{Option}
 use Rattle.std.proofs.lemmas.Result.{err_from_is_err_and}
 use Rattle.std.proofs.lemmas.Bool.{lt-ltb}
 use Rattle.sled_base.specs.Kinds.{log_kind_of, byte_of}
@@ -8,19 +7,18 @@ use Rattle.sled_log.specs.Calls.{can_append}
 use Rattle.std.specs.Global.{Vec}
 use Rattle.sled_disk.specs.declared.recovery.head.Head.{Head}
 use Rattle.sled_disk.specs.Pending.{open_behind, is_own}
-use Rattle.sled_disk.specs.Format.{Record, is_changing}
-use Rattle.sled_disk.specs.CountedMessages.{IsLooked}
+use Rattle.sled_disk.specs.Format.{is_changing}
 use Rattle.sled_disk.specs.Reading.{chains_of, step_head, effect_of_head}
-use Rattle.sled_disk.specs.LogContents.{Stands, records_behind}
+use Rattle.sled_disk.specs.LogContents.{records_behind}
 use Rattle.sled_disk.specs.StepLaws.{changing}
 use Rattle.sled_disk.specs.PendingFrame.{place_of, batch_of}
 use Rattle.sled_disk.proofs.Frames.RecordAppend.{append-taken, change-stands, made-none, same-error}
 use Rattle.sled_disk.proofs.Frames.WrittenFrame.{open-by-batch}
 use Rattle.sled_disk.proofs.Chains.LogHeads.{step-heads, step-ends}
-use Rattle.sled_disk.specs.Cursor.{IsAmong}
-use Rattle.sled_disk.proofs.Moves.MovesAfterCalls.{among-more, counted-places}
-use Rattle.sled_disk.proofs.Moves.SearchProgress.{looked-more}
+use Rattle.sled_disk.proofs.Moves.MovesAfterCalls.{counted-places}
 use Rattle.sled_disk.proofs.Frames.PendingBuffer.{place-is}
+use Rattle.sled_disk.proofs.LogCalls.OneMore.{IsMore, more-stands, more-stood, more-looked}
+use Rattle.sled_disk.proofs.log.DiskLog.add.Goals.{After-push}
 use Rattle.sled_disk.proofs.log.DiskLog.add.Goals as goal
 
 pub returns-in_err-take_head-clause-sound : goal.returns-in_err-take_head-clause-sound
@@ -44,6 +42,10 @@ push-requires-clause-not_mark g c =
     let batch = c.make_room.new.self.next.batch in
     ap (open_behind batch) c.from.ensures ∙ (changing c.args.kind changes).opens batch
 
+-- the record waits
+more : (g : _) (c : After-push g) → IsMore c.make_room.new.self.next c.push.new.self (record { kind = c.from.result; id = c.args.pid; payload = c.args.payload.now })
+more g c = let e = c.push.ensures in record { gate = e.gate; spilled = e.spilled; records = e.records }
+
 pub invariant_of-self-2-clause-stands : goal.invariant_of-self-2-clause-stands
 invariant_of-self-2-clause-stands g c = λ told usable.
     let mid = c.make_room.new.self in
@@ -52,10 +54,8 @@ invariant_of-self-2-clause-stands g c = λ told usable.
     let at = c.place-place.ensures ∙ place-is mid.next.gate mid.next.buffer.items mid.next.are_bytes mid.next.front mid.next.parsed in
     let records = subst (λ k. records_behind next.buffer.items ≡ records_behind mid.next.buffer.items ++ record { kind = k; id = c.args.pid; payload = c.args.payload.now } ∷ []) c.from.ensures c.push.ensures.records in
     let batch = open-by-batch mid.next next c.push.ensures.batch c.push.ensures.batch_place in
-    subst (λ n. Stands (g.D.Disk.seen mid.disk) n next.spilled (records_behind next.buffer.items) (batch_of next) (chains_of c.take_head.new.pages.items)) (sym c.push.ensures.gate)
-    (subst (λ b. Stands (g.D.Disk.seen mid.disk) mid.next.gate b (records_behind next.buffer.items) (batch_of next) (chains_of c.take_head.new.pages.items)) (sym c.push.ensures.spilled)
-    (subst (λ (b : Option ℕ). Stands (g.D.Disk.seen mid.disk) mid.next.gate mid.next.spilled (records_behind next.buffer.items) b (chains_of c.take_head.new.pages.items)) (sym batch)
-    (change-stands (g.D.Disk.seen mid.disk) mid.next.gate mid.next.spilled mid.next.buffer.items (batch_of mid.next) chains (λ i. g.met.D.Disk.are_bytes mid.disk i told) (mid.stands told usable) c.args.kind c.args.pid c.place-place.result c.args.payload.now next.buffer.items (chains_of c.take_head.new.pages.items) at (sym c.is_change.ensures ∙ c.if-not-is_change.false) c.in_ok-take_head.ensures.made records)))
+    more-stands (more g (goal.at.invariant_of-self-2-clause-stands g c).After-push) (g.D.Disk.seen mid.disk) _ (chains_of c.take_head.new.pages.items) batch
+    (change-stands (g.D.Disk.seen mid.disk) mid.next.gate mid.next.spilled mid.next.buffer.items (batch_of mid.next) chains (λ i. g.met.D.Disk.are_bytes mid.disk i told) (mid.stands told usable) c.args.kind c.args.pid c.place-place.result c.args.payload.now next.buffer.items (chains_of c.take_head.new.pages.items) at (sym c.is_change.ensures ∙ c.if-not-is_change.false) c.in_ok-take_head.ensures.made records)
 
 pub invariant_of-self-2-clause-heads : goal.invariant_of-self-2-clause-heads
 invariant_of-self-2-clause-heads g c =
@@ -88,17 +88,12 @@ pub invariant_of-self-2-clause-stood : goal.invariant_of-self-2-clause-stood
 invariant_of-self-2-clause-stood g c = λ told usable.
     let mid = c.make_room.new.self in
     let seen = g.D.Disk.seen mid.disk in
-    let rs = records_behind mid.next.buffer.items in
-    let both = counted-places seen rs mid.names c.count.new.self c.count.ensures.kept (mid.stood told usable, mid.looked told usable) in
-    subst (λ (l : List Record). IsAmong seen l c.count.new.self.gate c.count.new.self.at) (sym c.push.ensures.records)
-    (among-more seen rs (record { kind = c.from.result; id = c.args.pid; payload = c.args.payload.now }) c.count.new.self.gate c.count.new.self.at both.0)
+    let both = counted-places seen (records_behind mid.next.buffer.items) mid.names c.count.new.self c.count.ensures.kept (mid.stood told usable, mid.looked told usable) in
+    more-stood (more g (goal.at.invariant_of-self-2-clause-stood g c).After-push) seen c.count.new.self.gate c.count.new.self.at both.0
 
 pub invariant_of-self-2-clause-looked : goal.invariant_of-self-2-clause-looked
 invariant_of-self-2-clause-looked g c = λ told usable.
     let mid = c.make_room.new.self in
     let seen = g.D.Disk.seen mid.disk in
-    let rs = records_behind mid.next.buffer.items in
-    let r : Record = record { kind = c.from.result; id = c.args.pid; payload = c.args.payload.now } in
-    let both = counted-places seen rs mid.names c.count.new.self c.count.ensures.kept (mid.stood told usable, mid.looked told usable) in
-    subst (λ (l : List Record). IsLooked seen l c.count.new.self) (sym c.push.ensures.records)
-    (looked-more seen rs r c.count.new.self (own-of c.args.kind c.args.pid c.args.payload.now c.from.result c.from.ensures (sym c.is_change.ensures ∙ c.if-not-is_change.false)) both.0 both.1)
+    let both = counted-places seen (records_behind mid.next.buffer.items) mid.names c.count.new.self c.count.ensures.kept (mid.stood told usable, mid.looked told usable) in
+    more-looked (more g (goal.at.invariant_of-self-2-clause-looked g c).After-push) seen c.count.new.self (own-of c.args.kind c.args.pid c.args.payload.now c.from.result c.from.ensures (sym c.is_change.ensures ∙ c.if-not-is_change.false)) both.0 both.1

@@ -3,7 +3,7 @@ use Rattle.sled_base.specs.declared.types.DiskPtr.{DiskPtr}
 use Rattle.sled_base.specs.declared.types.DiskPtr.TheVariants.{Inline}
 use Rattle.sled_disk.specs.declared.log.names.Names.{Names}
 use Rattle.sled_disk.specs.declared.format.next_frame.NextFrame.{NextFrame}
-use Rattle.sled_disk.proofs.Moves.SearchSteps.{IsKept, within}
+use Rattle.sled_disk.proofs.Moves.SearchSteps.{kept-at, within}
 use Rattle.sled_disk.proofs.Moves.MovesAfterCalls.{moves-more, messages-changed}
 use Rattle.sled_disk.specs.Pending.{pending_in, room_after}
 use Rattle.sled_disk.specs.LogContents.{records_behind, is_begun}
@@ -30,23 +30,21 @@ returns-in_err-place-clause-called g c =
     let log = c.args.self.now in
     let p = err_from_is_err_and c.from_residual.result c.from_residual.ensures.1 in
     rw p.1 (rw p.2
-    (called-refused (λ log. log.disk) (λ log. log.next.gate) (λ log. log.next.spilled) (λ log. log.next.buffer.items) (λ log. batch_of log.next) (λ log. log.usable) (λ log. log.reads)
-    g.D.Disk.tells g.D.Disk.seen g.D.Disk.may_leave g.D.Disk.moment g.D.Disk.left_since g.D.Disk.counts (λ disk left told was. g.met.D.Disk.only_now disk left told was)
+    (called-refused g.D.Disk (λ disk left told was. g.met.D.Disk.only_now disk left told was) (λ disk told i. g.met.D.Disk.are_bytes disk i told)
     log c.add.new.self _ _ c.in_err-place.field-0.0 c.in_err-place.ensures.only (λ told is. c.in_err-place.ensures.sound (can-heads (g.D.Disk.seen log.disk) log.next.gate log.next.spilled log.next.buffer.items (batch_of log.next) (chains_of log.pages.items) (λ i. g.met.D.Disk.are_bytes log.disk i told) (log.stands told c.requires.usable) log.usable c.args.kind c.args.pid log.next.own (c.requires.can told)) (ap (λ e. Err e) is)) c.add.ensures.rests c.add.ensures.counts c.add.ensures.usable c.add.ensures.reads
     (record { gate = c.add.ensures.gate; spilled = c.add.ensures.spilled; records = ap records_behind c.in_err-place.ensures.kept })
-    (λ told. record { heads = chains_of log.pages.items; fits = λ i. g.met.D.Disk.are_bytes log.disk i told; stands = log.stands told c.requires.usable; durable = log.durable told c.requires.usable })))
+    c.requires.usable))
 
 pub returns-then-len-self-clause-called : goal.returns-then-len-self-clause-called
 returns-then-len-self-clause-called g c =
     let log = c.args.self.now in
     let new = c.add.new.self in
-    called-waits (λ log. log.disk) (λ log. log.next.gate) (λ log. log.next.spilled) (λ log. log.next.buffer.items) (λ log. batch_of log.next) (λ log. log.usable) (λ log. log.reads)
-    g.D.Disk.tells g.D.Disk.seen g.D.Disk.may_leave g.D.Disk.moment g.D.Disk.left_since g.D.Disk.counts (λ disk left told was. g.met.D.Disk.only_now disk left told was)
+    called-waits g.D.Disk (λ disk left told was. g.met.D.Disk.only_now disk left told was) (λ disk told i. g.met.D.Disk.are_bytes disk i told)
     log new _ _ c.said_at-said.result c.add.ensures.rests c.add.ensures.counts c.add.ensures.usable c.add.ensures.reads
     (λ told. ap (λ (l : List ℕ). pending_in l new.next.gate new.next.spilled new.next.buffer.items) (c.add.ensures.rests.same told) ∙ ap (λ n. pending_in (g.D.Disk.seen log.disk) n new.next.spilled new.next.buffer.items) c.add.ensures.gate ∙ ap (λ b. pending_in (g.D.Disk.seen log.disk) log.next.gate b new.next.buffer.items) c.add.ensures.spilled
     ∙ change-waits log.next c.args.kind c.args.pid c.args.payload.now c.said_at-said.result (g.D.Disk.seen log.disk) new.next.buffer.items c.in_ok-place.ensures.added (now effect_of_entry (state_of (g.D.Disk.seen log.disk) log.next log.usable)) (c.requires.can told) (said-is log.next c.args.payload.now c.in_ok-place.place c.said_at-said.result c.in_ok-place.ensures.place c.said_at-said.ensures))
     (sym new.next.batch_is ∙ flag-of new.next log.next c.add.ensures.batch ∙ log.next.batch_is)
-    (λ told. record { heads = chains_of log.pages.items; fits = λ i. g.met.D.Disk.are_bytes log.disk i told; stands = log.stands told c.requires.usable; durable = log.durable told c.requires.usable })
+    c.requires.usable
 
 pub returns-then-len-self-clause-sized : goal.returns-then-len-self-clause-sized
 returns-then-len-self-clause-sized g c = λ told.
@@ -62,10 +60,9 @@ returns-clause-called g c =
     let after = c.write_next.new.self in
     let cause = c.in_ok-write_next.ensures.cause in
     let said = said-is log.next c.args.payload.now c.in_ok-place.place c.said_at-said.result c.in_ok-place.ensures.place c.said_at-said.ensures in
-    called-wrote (λ log. log.disk) (λ log. log.next.gate) (λ log. log.next.spilled) (λ log. log.next.buffer.items) (λ log. batch_of log.next) (λ log. log.usable) (λ log. log.reads)
-    g.D.Disk.tells g.D.Disk.seen g.D.Disk.may_leave g.D.Disk.moment g.D.Disk.left_since g.D.Disk.counts (λ disk left told was. g.met.D.Disk.only_now disk left told was)
+    called-wrote g.D.Disk (λ disk left told was. g.met.D.Disk.only_now disk left told was) (λ disk told i. g.met.D.Disk.are_bytes disk i told)
     log after _ _ new (Change c.args.pid (placed_entry (message c.args.kind c.args.payload.now) c.said_at-said.result) ∷ []) refl c.add.ensures.rests c.add.ensures.counts
-    (λ told. record { heads = chains_of log.pages.items; fits = λ i. g.met.D.Disk.are_bytes log.disk i told; stands = log.stands told c.requires.usable; durable = log.durable told c.requires.usable })
+    c.requires.usable
     (λ told. ap (λ (l : List ℕ). pending_in l new.next.gate new.next.spilled new.next.buffer.items) (c.add.ensures.rests.same told) ∙ ap (λ n. pending_in (g.D.Disk.seen log.disk) n new.next.spilled new.next.buffer.items) c.add.ensures.gate ∙ ap (λ b. pending_in (g.D.Disk.seen log.disk) log.next.gate b new.next.buffer.items) c.add.ensures.spilled
     ∙ change-waits log.next c.args.kind c.args.pid c.args.payload.now c.said_at-said.result (g.D.Disk.seen log.disk) new.next.buffer.items c.in_ok-place.ensures.added (now effect_of_entry (state_of (g.D.Disk.seen log.disk) log.next log.usable)) (c.requires.can told) (said-is log.next c.args.payload.now c.in_ok-place.place c.said_at-said.result c.in_ok-place.ensures.place c.said_at-said.ensures))
     (sym new.next.batch_is ∙ flag-of new.next log.next c.add.ensures.batch ∙ log.next.batch_is) (c.write_next.ensures.reads ∙ c.add.ensures.reads)
@@ -92,10 +89,9 @@ returns-in_err-write_next-clause-called g c =
     let p = err_from_is_err_and c.from_residual-in_err-write_next.result c.from_residual-in_err-write_next.ensures.1 in
     let fault : p.0 ≡ WriteFault = p.2 ∙ c.in_err-write_next.ensures.only in
     rw p.1 (rw fault
-    (called-fault (λ log. log.disk) (λ log. log.next.gate) (λ log. log.next.spilled) (λ log. log.next.buffer.items) (λ log. batch_of log.next) (λ log. log.usable) (λ log. log.reads)
-    g.D.Disk.tells g.D.Disk.seen g.D.Disk.may_leave g.D.Disk.moment g.D.Disk.left_since g.D.Disk.counts (λ disk left told was. g.met.D.Disk.only_now disk left told was)
+    (called-fault g.D.Disk (λ disk left told was. g.met.D.Disk.only_now disk left told was) (λ disk told i. g.met.D.Disk.are_bytes disk i told)
     log c.write_next.new.self _ _ new (Change c.args.pid (placed_entry (message c.args.kind c.args.payload.now) c.said_at-said.result) ∷ []) refl c.add.ensures.rests c.add.ensures.counts
-    (λ told. record { heads = chains_of log.pages.items; fits = λ i. g.met.D.Disk.are_bytes log.disk i told; stands = log.stands told c.requires.usable; durable = log.durable told c.requires.usable })
+    c.requires.usable
     (λ told. ap (λ (l : List ℕ). pending_in l new.next.gate new.next.spilled new.next.buffer.items) (c.add.ensures.rests.same told) ∙ ap (λ n. pending_in (g.D.Disk.seen log.disk) n new.next.spilled new.next.buffer.items) c.add.ensures.gate ∙ ap (λ b. pending_in (g.D.Disk.seen log.disk) log.next.gate b new.next.buffer.items) c.add.ensures.spilled
     ∙ change-waits log.next c.args.kind c.args.pid c.args.payload.now c.said_at-said.result (g.D.Disk.seen log.disk) new.next.buffer.items c.in_ok-place.ensures.added (now effect_of_entry (state_of (g.D.Disk.seen log.disk) log.next log.usable)) (c.requires.can told) (said-is log.next c.args.payload.now c.in_ok-place.place c.said_at-said.result c.in_ok-place.ensures.place c.said_at-said.ensures))
     (sym new.next.batch_is ∙ flag-of new.next log.next c.add.ensures.batch ∙ log.next.batch_is) (c.write_next.ensures.reads ∙ c.add.ensures.reads)
@@ -158,13 +154,13 @@ returns-then-len-self-clause-named g c = λ told some.
     let next = log.next in
     let new = c.add.new.self in
     let seen = g.D.Disk.seen log.disk in
-    let k : IsKept seen next.gate next.buffer.items log.names.gate log.names.at = record { spilled = next.spilled; batch = batch_of next; heads = chains_of log.pages.items; fits = λ i. g.met.D.Disk.are_bytes log.disk i told; stands = log.stands told c.requires.usable; own = next.own; are_bytes = next.are_bytes; front = next.front; parsed = next.parsed; stood = log.stood told c.requires.usable } in
     let waits : pending_of (g.D.Disk.seen new.disk) new.next ≡ pending_of seen next ++ Change c.args.pid (placed_entry (message c.args.kind c.args.payload.now) (said_of next c.args.payload.now)) ∷ [] =
     ap (λ (l : List ℕ). pending_in l new.next.gate new.next.spilled new.next.buffer.items) (c.add.ensures.rests.same told) ∙ ap (λ n. pending_in (g.D.Disk.seen log.disk) n new.next.spilled new.next.buffer.items) c.add.ensures.gate ∙ ap (λ b. pending_in (g.D.Disk.seen log.disk) log.next.gate b new.next.buffer.items) c.add.ensures.spilled
     ∙ change-waits log.next c.args.kind c.args.pid c.args.payload.now (said_of log.next c.args.payload.now) (g.D.Disk.seen log.disk) new.next.buffer.items c.in_ok-place.ensures.added (now effect_of_entry (state_of (g.D.Disk.seen log.disk) log.next log.usable)) (c.requires.can told) refl in
     moves-more seen (g.D.Disk.seen new.disk) next new.next log.names new.names c.args.pid
     (messages-changed seen (g.D.Disk.seen new.disk) next new.next c.args.pid (placed_entry (message c.args.kind c.args.payload.now) (said_of next c.args.payload.now)) (c.add.ensures.rests.same told) waits)
-    (within seen next.gate next.buffer.items log.names.gate log.names.at k) (ap (λ (n : Names). n.at) c.add.ensures.places) (ap (λ (n : Names). n.read) c.add.ensures.places) (c.in_ok-place.ensures.counted some)
+    (within (kept-at log told c.requires.usable (λ i. g.met.D.Disk.are_bytes log.disk i told) log.names.gate log.names.at (log.stood told c.requires.usable)))
+    (ap (λ (n : Names). n.at) c.add.ensures.places) (ap (λ (n : Names). n.read) c.add.ensures.places) (c.in_ok-place.ensures.counted some)
 
 pub returns-clause-named : goal.returns-clause-named
 returns-clause-named g c = λ told some.
@@ -173,7 +169,6 @@ returns-clause-named g c = λ told some.
     let new = c.add.new.self in
     let last = c.write_next.new.self in
     let seen = g.D.Disk.seen log.disk in
-    let k : IsKept seen next.gate next.buffer.items log.names.gate log.names.at = record { spilled = next.spilled; batch = batch_of next; heads = chains_of log.pages.items; fits = λ i. g.met.D.Disk.are_bytes log.disk i told; stands = log.stands told c.requires.usable; own = next.own; are_bytes = next.are_bytes; front = next.front; parsed = next.parsed; stood = log.stood told c.requires.usable } in
     let waits : pending_of (g.D.Disk.seen new.disk) new.next ≡ pending_of seen next ++ Change c.args.pid (placed_entry (message c.args.kind c.args.payload.now) (said_of next c.args.payload.now)) ∷ [] =
     ap (λ (l : List ℕ). pending_in l new.next.gate new.next.spilled new.next.buffer.items) (c.add.ensures.rests.same told) ∙ ap (λ n. pending_in (g.D.Disk.seen log.disk) n new.next.spilled new.next.buffer.items) c.add.ensures.gate ∙ ap (λ b. pending_in (g.D.Disk.seen log.disk) log.next.gate b new.next.buffer.items) c.add.ensures.spilled
     ∙ change-waits log.next c.args.kind c.args.pid c.args.payload.now (said_of log.next c.args.payload.now) (g.D.Disk.seen log.disk) new.next.buffer.items c.in_ok-place.ensures.added (now effect_of_entry (state_of (g.D.Disk.seen log.disk) log.next log.usable)) (c.requires.can told) refl in
@@ -181,4 +176,5 @@ returns-clause-named g c = λ told some.
     moves-more seen (g.D.Disk.seen last.disk) next last.next log.names last.names c.args.pid
     (c.in_ok-write_next.ensures.messages told
     ∙ messages-changed seen (g.D.Disk.seen new.disk) next new.next c.args.pid (placed_entry (message c.args.kind c.args.payload.now) (said_of next c.args.payload.now)) (c.add.ensures.rests.same told) waits)
-    (within seen next.gate next.buffer.items log.names.gate log.names.at k) (ap (λ (n : Names). n.at) names ∙ ap (λ (n : Names). n.at) c.add.ensures.places) (ap (λ (n : Names). n.read) names ∙ ap (λ (n : Names). n.read) c.add.ensures.places) (ap (λ (n : Names). n.appended) names ∙ c.in_ok-place.ensures.counted some)
+    (within (kept-at log told c.requires.usable (λ i. g.met.D.Disk.are_bytes log.disk i told) log.names.gate log.names.at (log.stood told c.requires.usable)))
+    (ap (λ (n : Names). n.at) names ∙ ap (λ (n : Names). n.at) c.add.ensures.places) (ap (λ (n : Names). n.read) names ∙ ap (λ (n : Names). n.read) c.add.ensures.places) (ap (λ (n : Names). n.appended) names ∙ c.in_ok-place.ensures.counted some)

@@ -1,13 +1,13 @@
-use Rattle.std.proofs.Common.{◌≡◌, ℕ, ◌+◌, ◌<◌, Bool, true, List, length, sym, ◌∙◌, ap, subst, arith}
-use Rattle.std.specs.Prelude.{Option}
+use Rattle.std.proofs.Common.{◌≡◌, ℕ, ◌+◌, ◌<◌, Bool, true, List, [], ◌∷◌, ◌++◌, drop, length, sym, ◌∙◌, ap, subst, arith}
+use Rattle.std.specs.Prelude.{Option, is_ok}
 use Rattle.sled_disk.specs.declared.recovery.head.Head.{Head}
 use Rattle.sled_disk.specs.declared.format.next_frame.NextFrame.{NextFrame}
 use Rattle.sled_disk.specs.Crash.{IsShutOrOpened, IsWhole}
 use Rattle.sled_disk.specs.Format.{IsBytes}
 use Rattle.sled_disk.specs.Pending.{frame_in}
-use Rattle.sled_disk.specs.Reading.{chains_of}
+use Rattle.sled_disk.specs.Reading.{chains_of, frames_of}
 use Rattle.sled_disk.specs.RecoveredLog.{IsEither}
-use Rattle.sled_disk.specs.LogContents.{Stands, records_behind, events_in}
+use Rattle.sled_disk.specs.LogContents.{or_none, Stands, records_behind, events_in}
 use Rattle.sled_disk.specs.PendingFrame.{place_of, batch_of, events_of}
 use Rattle.sled_disk.proofs.Chains.LogHeads.{all-later}
 use Rattle.sled_disk.specs.CountedMessages.{counted_messages}
@@ -16,6 +16,7 @@ use Rattle.sled_disk.proofs.Moves.SearchProgress.{looked-written, placed-written
 use Rattle.sled_disk.proofs.Moves.SearchSteps.{counted-all}
 use Rattle.sled_disk.proofs.Moves.MovesAfterCalls.{among-written}
 use Rattle.sled_disk.proofs.Frames.WrittenFrame.{on_ok_by, written-frames, on_ok, on_ok_map, written-stands, written-says, before-or-after, closes, left-so, open-by-batch, open-is, room-small}
+use Rattle.sled_disk.proofs.log.DiskLog.write_next.Goals.{After-write-wrote}
 use Rattle.sled_disk.proofs.log.DiskLog.write_next.Goals as goal
 
 pub write-wrote-requires-clause-closed : goal.write-wrote-requires-clause-closed
@@ -72,29 +73,29 @@ invariant_of-self-clause-ends g c = λ usable.
     let gate : next.gate ≡ log.next.gate + 1 + length log.next.buffer.items = on_ok c.write-wrote.result c.write-wrote.ensures.gate ok in
     all-later (place_of log.next) (place_of next) (chains_of log.pages.items) (omega (arith, gate)) (log.ends c.requires.usable)
 
+-- the frames of the file, where it was written
+frames : (g : _) (c : After-write-wrote g) → g.D.Disk.tells → is_ok c.write-wrote.result ≡ true
+    → (let rs = records_behind c.args.self.now.next.buffer.items in or_none (frames_of (drop 8 (g.D.Disk.seen c.write-wrote.new.disk))) ≡ or_none (frames_of (drop 8 (g.D.Disk.seen c.args.self.now.disk))) ++ record { gate = 1; records = rs } ∷ [])
+frames g c told ok =
+    let log = c.args.self.now in
+    written-frames (g.D.Disk.seen log.disk) log.next.gate log.next.spilled log.next.buffer.items (batch_of log.next) (chains_of log.pages.items) (λ i. g.met.D.Disk.are_bytes log.disk i told) (log.stands told c.requires.usable) log.next.are_bytes log.next.parsed c.requires.some
+    (room-small log.next (log.next.fits c.requires.some)) (g.D.Disk.seen c.write-wrote.new.disk) (on_ok c.write-wrote.result (c.write-wrote.ensures.written told) ok)
+
+-- nothing waits
+empty : (g : _) (c : After-write-wrote g) → records_behind c.write-wrote.new.self.buffer.items ≡ []
+empty g c = let long = c.write-wrote.ensures.buffer in none-behind c.write-wrote.new.self.buffer.items (omega (arith, long))
+
 pub invariant_of-self-clause-stood : goal.invariant_of-self-clause-stood
 invariant_of-self-clause-stood g c = λ told usable.
     let log = c.args.self.now in
-    let next = c.write-wrote.new.self in
-    let seen = g.D.Disk.seen log.disk in
-    let after = g.D.Disk.seen c.write-wrote.new.disk in
-    let ok = sym c.is_ok-self.ensures.value ∙ usable in
-    let long = c.write-wrote.ensures.buffer in
-    among-written seen after (records_behind log.next.buffer.items) (records_behind next.buffer.items) log.names.gate log.names.at (none-behind next.buffer.items (omega (arith, long)))
-    (written-frames seen log.next.gate log.next.spilled log.next.buffer.items (batch_of log.next) (chains_of log.pages.items) (λ i. g.met.D.Disk.are_bytes log.disk i told) (log.stands told c.requires.usable) log.next.are_bytes log.next.parsed c.requires.some (room-small log.next (log.next.fits c.requires.some)) after (on_ok c.write-wrote.result (c.write-wrote.ensures.written told) ok))
-    (log.stood told c.requires.usable)
+    let at = (goal.at.invariant_of-self-clause-stood g c).After-write-wrote in
+    among-written (g.D.Disk.seen log.disk) (g.D.Disk.seen c.write-wrote.new.disk) (records_behind log.next.buffer.items) _ log.names.gate log.names.at (empty g at) (frames g at told (sym c.is_ok-self.ensures.value ∙ usable)) (log.stood told c.requires.usable)
 
 pub invariant_of-self-clause-looked : goal.invariant_of-self-clause-looked
 invariant_of-self-clause-looked g c = λ told usable.
     let log = c.args.self.now in
-    let next = c.write-wrote.new.self in
-    let seen = g.D.Disk.seen log.disk in
-    let after = g.D.Disk.seen c.write-wrote.new.disk in
-    let ok = sym c.is_ok-self.ensures.value ∙ usable in
-    let long = c.write-wrote.ensures.buffer in
-    looked-written seen after (records_behind log.next.buffer.items) (records_behind next.buffer.items) log.names (none-behind next.buffer.items (omega (arith, long)))
-    (written-frames seen log.next.gate log.next.spilled log.next.buffer.items (batch_of log.next) (chains_of log.pages.items) (λ i. g.met.D.Disk.are_bytes log.disk i told) (log.stands told c.requires.usable) log.next.are_bytes log.next.parsed c.requires.some (room-small log.next (log.next.fits c.requires.some)) after (on_ok c.write-wrote.result (c.write-wrote.ensures.written told) ok))
-    (log.looked told c.requires.usable)
+    let at = (goal.at.invariant_of-self-clause-looked g c).After-write-wrote in
+    looked-written (g.D.Disk.seen log.disk) (g.D.Disk.seen c.write-wrote.new.disk) (records_behind log.next.buffer.items) _ log.names (empty g at) (frames g at told (sym c.is_ok-self.ensures.value ∙ usable)) (log.looked told c.requires.usable)
 
 pub returns-clause-messages : goal.returns-clause-messages
 returns-clause-messages g c = λ told.
@@ -102,12 +103,11 @@ returns-clause-messages g c = λ told.
     let next = c.write-wrote.new.self in
     let seen = g.D.Disk.seen log.disk in
     let after = g.D.Disk.seen c.write-wrote.new.disk in
-    let long = c.write-wrote.ensures.buffer in
+    let at = (goal.at.returns-clause-messages g c).After-write-wrote in
     let rs = records_behind log.next.buffer.items in
     on_ok_by c.write-wrote.result (λ ok.
-    let frames = written-frames seen log.next.gate log.next.spilled log.next.buffer.items (batch_of log.next) (chains_of log.pages.items) (λ i. g.met.D.Disk.are_bytes log.disk i told) (log.stands told c.requires.usable) log.next.are_bytes log.next.parsed c.requires.some (room-small log.next (log.next.fits c.requires.some)) after (on_ok c.write-wrote.result (c.write-wrote.ensures.written told) ok) in
     sym (counted-all after next.gate next.spilled next.buffer.items (batch_of next) (chains_of log.pages.items) (λ i. g.met.D.Disk.are_bytes c.write-wrote.new.disk i told)
     (stands-then seen after log.next next (chains_of log.pages.items) (λ i. g.met.D.Disk.are_bytes log.disk i told) (log.stands told c.requires.usable) c.requires.some (on_ok c.write-wrote.result c.write-wrote.ensures.gate ok) c.write-wrote.ensures.buffer c.write-wrote.ensures.batch c.write-wrote.ensures.batch_place
     c.write-wrote.ensures.spilled (on_ok c.write-wrote.result (c.write-wrote.ensures.written told) ok)) next.own)
-    ∙ ap (counted_messages true) (placed-written seen after rs (records_behind next.buffer.items) (none-behind next.buffer.items (omega (arith, long))) frames)
+    ∙ ap (counted_messages true) (placed-written seen after rs (records_behind next.buffer.items) (empty g at) (frames g at told ok))
     ∙ counted-all seen log.next.gate log.next.spilled log.next.buffer.items (batch_of log.next) (chains_of log.pages.items) (λ i. g.met.D.Disk.are_bytes log.disk i told) (log.stands told c.requires.usable) log.next.own)

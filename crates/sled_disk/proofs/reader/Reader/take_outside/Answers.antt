@@ -1,30 +1,27 @@
-use Rattle.std.proofs.Common.{◌≡◌, ◌+◌, ◌∙◌, ℕ, List, [], ◌∷◌, refl, ap, sym, arith}
-use Rattle.std.specs.Prelude.{Option, Some, ◌&&◌}
+use Rattle.std.proofs.Common.{◌≡◌, ◌+◌, ◌∙◌, refl, ap, sym, arith}
+use Rattle.std.specs.Prelude.{Some, None}
 use Rattle.sled_log.specs.declared.log.LogError.TheVariants.{Corruption}
 use Rattle.sled_disk.specs.declared.recovery.head.Head.{Head}
-use Rattle.sled_disk.specs.Format.{◌>>=◌, number, outside, within, stands_in}
-use Rattle.sled_disk.specs.ReaderState.{read_by}
-use Rattle.sled_disk.specs.UnreadBytes.{left_at}
-use Rattle.sled_disk.specs.Reading.{Read, chains_of, raw_record, step, step_head}
-use Rattle.sled_disk.proofs.Readers.ReaderSteps.{goes-refused, goes-taken, goes-misnamed, goes-named, handed-on, unmade, read-closed}
+use Rattle.sled_disk.specs.Format.{outside, within}
+use Rattle.sled_disk.specs.Reading.{chains_of, step_head}
+use Rattle.sled_disk.proofs.Readers.ReaderSteps.{IsNext, goes-refused, goes-taken, goes-misnamed, goes-named, handed-on, unmade, read-closed}
 use Rattle.sled_disk.proofs.Chains.ChainHeads.{heads-later, heads-taken}
 use Rattle.sled_disk.proofs.Readers.RecordEffects.{head_of, begin-made, begin-refused, plain-made}
 use Rattle.sled_disk.proofs.Readers.BatchChanges.{waiting-later}
+use Rattle.sled_disk.proofs.reader.Reader.take_outside.Goals.{Start, After-take_head}
 use Rattle.sled_disk.proofs.reader.Reader.take_outside.Goals as goal
+
+-- the record that is taken
+next : (g : _) (c : Start g) → g.D.Disk.tells → (let self = c.args.self.now in IsNext (g.D.Disk.seen c.args.disk.now) self c.args.raw c.args.len (outside (chains_of self.pages.items)))
+next g c told =
+    let self = c.args.self.now in
+    let is = read-closed (chains_of self.pages.items) self.begun self.changes.items c.requires.closed in
+    record { on = c.requires.goes_on told; head = c.requires.head told; has = c.requires.has; ahead = c.requires.ahead; read = is }
 
 pub returns-then-not-is_begin-clause-corrupt : goal.returns-then-not-is_begin-clause-corrupt
 returns-then-not-is_begin-clause-corrupt g c = λ told is.
-    let on = c.requires.goes_on told in
-    let seen = g.D.Disk.seen c.args.disk.now in
-    let self = c.args.self.now in
-    let raw = c.args.raw in
-    let len = c.args.len in
-    let settled = chains_of self.pages.items in
-    let closed : read_by self ≡ outside settled = read-closed settled self.begun self.changes.items c.requires.closed in
-    goes-refused seen self on (Some (raw, len)) raw len refl (c.requires.head told) c.requires.has self.targets (λ test met. refl)
-    (λ payload mark rs long piece marked.
-    ap (λ (p : Read). step p self.at (raw_record raw payload) (mark rs)) closed
-    ∙ begin-refused raw self.at payload (mark rs) settled (sym c.begins.ensures ∙ c.if-begins.true) (sym (c.is_begin.ensures.is payload long) ∙ c.if-not-is_begin.true))
+    goes-refused (next g (goal.at.returns-then-not-is_begin-clause-corrupt g c).Start told)
+    (begin-refused (sym c.begins.ensures ∙ c.if-begins.true) (λ payload long. sym (c.is_begin.ensures.is payload long) ∙ c.if-not-is_begin.true))
 
 pub invariant_of-self : goal.invariant_of-self
 invariant_of-self g c =
@@ -41,38 +38,17 @@ invariant_of-self g c =
 
 pub returns-then-begins-clause-goes_on : goal.returns-then-begins-clause-goes_on
 returns-then-begins-clause-goes_on g c = λ told.
-    let on = c.requires.goes_on told in
-    let seen = g.D.Disk.seen c.args.disk.now in
     let self = c.args.self.now in
-    let raw = c.args.raw in
-    let len = c.args.len in
-    let settled = chains_of self.pages.items in
-    let closed : read_by self ≡ outside settled = read-closed settled self.begun self.changes.items c.requires.closed in
     let none = c.is_begin.ensures.len c.if-not-is_begin.false in
-    let next : self.at + 17 ≡ self.at + (17 + len) = omega (arith, none) in
-    record {
-      opens = on.opens;
-      end = on.end;
-      shows = on.shows;
-      left = ap (λ n. left_at seen n self.body_end self.targets (within settled self.at self.changes.items)) next
-          ∙ ap (λ (l : List (ℕ × Head)). left_at seen (self.at + (17 + len)) self.body_end self.targets (within settled self.at l)) (self.none c.requires.closed)
-          ∙ goes-taken seen self on (Some (raw, len)) raw len refl (c.requires.head told) c.requires.has self.targets (λ test met. refl) (within settled self.at [])
-          (λ payload mark rs long piece marked.
-          ap (λ (p : Read). step p self.at (raw_record raw payload) (mark rs)) closed
-          ∙ begin-made raw self.at payload (mark rs) settled (sym c.begins.ensures ∙ c.if-begins.true) (sym (c.is_begin.ensures.is payload long) ∙ c.if-not-is_begin.false)) c.requires.ahead;
-    }
+    goes-taken (next g (goal.at.returns-then-begins-clause-goes_on g c).Start told)
+    (begin-made (sym c.begins.ensures ∙ c.if-begins.true) (λ payload long. sym (c.is_begin.ensures.is payload long) ∙ c.if-not-is_begin.false))
+    (record { end = refl; shows = (c.requires.goes_on told).shows; at = omega (arith, none); body_end = refl; targets = refl })
+    (ap (within (chains_of self.pages.items) self.at) (self.none c.requires.closed))
 
 pub returns-in_err-name-clause-corrupt : goal.returns-in_err-name-clause-corrupt
 returns-in_err-name-clause-corrupt g c = λ told is.
-    let on = c.requires.goes_on told in
-    let seen = g.D.Disk.seen c.args.disk.now in
-    let self = c.args.self.now in
-    let raw = c.args.raw in
-    let len = c.args.len in
-    let settled = chains_of self.pages.items in
-    let closed : read_by self ≡ outside settled = read-closed settled self.begun self.changes.items c.requires.closed in
-    goes-misnamed seen self on (Some (raw, len)) raw len refl (c.requires.head told) c.requires.has self.targets (λ test met. refl) settled closed
-    c.if-is_mark.ensures.is (c.is_mark.ensures.len c.if-is_mark.true) c.in_ok-target.target (c.in_ok-target.ensures.number told)
+    goes-misnamed (next g (goal.at.returns-in_err-name-clause-corrupt g c).Start told) c.if-is_mark.ensures.is (c.is_mark.ensures.len c.if-is_mark.true)
+    c.in_ok-target.target (c.in_ok-target.ensures.number told)
     (c.name.ensures.before (handed-on c.name.result c.from_residual-in_err-name.result c.in_err-name.field-0.0 Corruption c.in_err-name.was c.from_residual-in_err-name.ensures.1 is))
 
 pub invariant_of-self-then-is_mark : goal.invariant_of-self-then-is_mark
@@ -90,41 +66,24 @@ invariant_of-self-then-is_mark g c =
 
 pub returns-then-is_mark-clause-goes_on : goal.returns-then-is_mark-clause-goes_on
 returns-then-is_mark-clause-goes_on g c = λ told.
-    let on = c.requires.goes_on told in
-    let seen = g.D.Disk.seen c.args.disk.now in
     let self = c.args.self.now in
-    let raw = c.args.raw in
-    let len = c.args.len in
-    let settled = chains_of self.pages.items in
-    let closed : read_by self ≡ outside settled = read-closed settled self.begun self.changes.items c.requires.closed in
-    record {
-      opens = on.opens;
-      end = on.end;
-      shows = c.in_ok-target.ensures.shows told;
-      left = ap (left_at seen (self.at + 25) self.body_end c.name.new.targets) closed
-          ∙ goes-named seen self on (Some (raw, len)) raw len refl (c.requires.head told) c.requires.has self.targets (λ test met. refl) settled closed
-          c.if-is_mark.ensures.is (c.is_mark.ensures.len c.if-is_mark.true) c.in_ok-target.target (c.in_ok-target.ensures.number told)
-          c.name.new.targets c.requires.ahead c.in_ok-name.ensures.named;
-    }
+    goes-named (next g (goal.at.returns-then-is_mark-clause-goes_on g c).Start told) c.if-is_mark.ensures.is (c.is_mark.ensures.len c.if-is_mark.true)
+    c.in_ok-target.target (c.in_ok-target.ensures.number told)
+    c.name.new.targets c.in_ok-name.ensures.named (record { end = refl; shows = c.in_ok-target.ensures.shows told; at = refl; body_end = refl; targets = refl })
+    (read-closed (chains_of self.pages.items) self.begun self.changes.items c.requires.closed)
+
+-- what its head makes of the pages
+heads : (g : _) (c : After-take_head g)
+    → step_head (chains_of c.args.self.now.pages.items) c.args.raw.page (head_of c.args.raw c.args.self.now.at c.args.len) ≡ step_head (chains_of c.args.self.now.pages.items) c.args.raw.page c.head-head.result
+heads g c = ap (λ (h : Head). step_head (chains_of c.args.self.now.pages.items) c.args.raw.page h) (sym c.head-head.ensures)
 
 pub returns-in_err-take_head-clause-corrupt : goal.returns-in_err-take_head-clause-corrupt
 returns-in_err-take_head-clause-corrupt g c = λ told is.
-    let on = c.requires.goes_on told in
-    let seen = g.D.Disk.seen c.args.disk.now in
-    let self = c.args.self.now in
-    let raw = c.args.raw in
-    let len = c.args.len in
-    let settled = chains_of self.pages.items in
-    let closed : read_by self ≡ outside settled = read-closed settled self.begun self.changes.items c.requires.closed in
+    let at = goal.at.returns-in_err-take_head-clause-corrupt g c in
     let corrupt = handed-on c.take_head.result c.from_residual-in_err-take_head.result c.in_err-take_head.field-0.0 Corruption c.in_err-take_head.was c.from_residual-in_err-take_head.ensures.1 is in
     let none = unmade c.take_head.result (chains_of c.take_head.new.pages.items) _ c.take_head.ensures.made corrupt in
-    goes-refused seen self on (Some (raw, len)) raw len refl (c.requires.head told) c.requires.has self.targets (λ test met. refl)
-    (λ payload mark rs long piece marked.
-    ap (λ (p : Read). step p self.at (raw_record raw payload) (mark rs)) closed
-    ∙ plain-made raw self.at payload (mark rs) settled len long (sym c.begins.ensures ∙ c.if-begins.false)
-    (marked ∙ ap (λ b. b && stands_in (number payload) self.at (raw_record raw payload ∷ rs)) (sym (c.is_mark.ensures.is payload long) ∙ c.if-is_mark.false))
-    ∙ ap (λ (h : Head). step_head settled raw.page h >>= λ t. Some (outside t)) (sym c.head-head.ensures)
-    ∙ ap (λ (x : Option (List (List Head))). x >>= λ t. Some (outside t)) none)
+    goes-refused (next g at.Start told) (plain-made None (sym c.begins.ensures ∙ c.if-begins.false)
+    (λ payload long. sym (c.is_mark.ensures.is payload long) ∙ c.if-is_mark.false) (heads g at.After-take_head ∙ none))
 
 pub invariant_of-self-2 : goal.invariant_of-self-2
 invariant_of-self-2 g c =
@@ -139,29 +98,15 @@ invariant_of-self-2 g c =
       within = has;
       inside = self.inside;
       heads = heads-taken end chains (chains_of c.take_head.new.pages.items) c.args.raw.page (head_of c.args.raw self.at len)
-          (ap (λ (h : Head). step_head chains c.args.raw.page h) (sym c.head-head.ensures) ∙ c.in_ok-take_head.ensures.made) (omega arith) (heads-later self.at end chains (omega arith) self.heads);
+          (heads g (goal.at.invariant_of-self-2 g c).After-take_head ∙ c.in_ok-take_head.ensures.made) (omega arith) (heads-later self.at end chains (omega arith) self.heads);
     }
 
 pub returns-clause-goes_on : goal.returns-clause-goes_on
 returns-clause-goes_on g c = λ told.
-    let on = c.requires.goes_on told in
-    let seen = g.D.Disk.seen c.args.disk.now in
+    let at = goal.at.returns-clause-goes_on g c in
     let self = c.args.self.now in
-    let raw = c.args.raw in
-    let len = c.args.len in
-    let settled = chains_of self.pages.items in
-    let closed : read_by self ≡ outside settled = read-closed settled self.begun self.changes.items c.requires.closed in
     let after = chains_of c.take_head.new.pages.items in
-    record {
-      opens = on.opens;
-      end = on.end;
-      shows = on.shows;
-      left = ap (left_at seen (self.at + (17 + len)) self.body_end self.targets) (read-closed after self.begun self.changes.items c.requires.closed)
-          ∙ goes-taken seen self on (Some (raw, len)) raw len refl (c.requires.head told) c.requires.has self.targets (λ test met. refl) (outside after)
-          (λ payload mark rs long piece marked.
-          ap (λ (p : Read). step p self.at (raw_record raw payload) (mark rs)) closed
-          ∙ plain-made raw self.at payload (mark rs) settled len long (sym c.begins.ensures ∙ c.if-begins.false)
-          (marked ∙ ap (λ b. b && stands_in (number payload) self.at (raw_record raw payload ∷ rs)) (sym (c.is_mark.ensures.is payload long) ∙ c.if-is_mark.false))
-          ∙ ap (λ (h : Head). step_head settled raw.page h >>= λ t. Some (outside t)) (sym c.head-head.ensures)
-          ∙ ap (λ (x : Option (List (List Head))). x >>= λ t. Some (outside t)) c.in_ok-take_head.ensures.made) c.requires.ahead;
-    }
+    goes-taken (next g at.Start told)
+    (plain-made (Some after) (sym c.begins.ensures ∙ c.if-begins.false)
+    (λ payload long. sym (c.is_mark.ensures.is payload long) ∙ c.if-is_mark.false) (heads g at.After-take_head ∙ c.in_ok-take_head.ensures.made))
+    (record { end = refl; shows = (c.requires.goes_on told).shows; at = refl; body_end = refl; targets = refl }) (read-closed after self.begun self.changes.items c.requires.closed)

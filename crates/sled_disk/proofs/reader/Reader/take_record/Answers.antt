@@ -1,23 +1,23 @@
-use Rattle.std.proofs.Common.{◌∙◌, ℕ, List, length, take, drop, ap, sym}
-use Rattle.sled_disk.specs.ReaderState.{read_by}
-use Rattle.sled_disk.specs.UnreadBytes.{left_at}
-use Rattle.sled_disk.specs.Reading.{start, found_at}
-use Rattle.sled_disk.proofs.Readers.ReaderSteps.{goes-unread, goes-reached, goes-missed, shows-still}
+use Rattle.std.proofs.Common.{◌≡◌, List, ℕ, refl}
+use Rattle.sled_disk.specs.declared.reader.Reader.{Reader}
+use Rattle.sled_disk.specs.ReaderState.{GoesOn, read_by}
+use Rattle.sled_disk.proofs.Readers.ReaderSteps.{Behind, goes-unread, goes-met, goes-missed}
+use Rattle.sled_disk.proofs.reader.Reader.take_record.Goals.{After-reach}
 use Rattle.sled_disk.proofs.reader.Reader.take_record.Goals as goal
 
 pub returns-in_default-clause-corrupt : goal.returns-in_default-clause-corrupt
 returns-in_default-clause-corrupt g c = λ told is.
     goes-unread (g.D.Disk.seen c.args.disk.now) c.args.self.now (c.requires.goes_on told) c.in_ok-head.head c.in_default.is (c.in_ok-head.ensures.head told) c.requires.body
 
+-- the places that name the record are met
+met : (g : _) (c : After-reach g) → g.D.Disk.tells → {new : Reader} {after : List ℕ} → after ≡ g.D.Disk.seen c.args.disk.now
+    → Behind (g.D.Disk.seen c.args.disk.now) c.args.self.now new c.args.self.now.at c.reach.new.self → read_by new ≡ read_by c.args.self.now → GoesOn after new
+met g c told =
+    goes-met (g.D.Disk.seen c.args.disk.now) c.args.self.now (c.requires.goes_on told) c.in_ok-head.head c.in-Some.raw c.in-Some.len c.in-Some.is (c.in_ok-head.ensures.head told) c.in_ok-head.ensures.has c.reach.new.self c.reach.ensures.reached
+
 pub returns-then-not-reach-clause-goes_on : goal.returns-then-not-reach-clause-goes_on
 returns-then-not-reach-clause-goes_on g c = λ told.
-    let on = c.requires.goes_on told in
-    record {
-      opens = on.opens;
-      end = on.end;
-      shows = c.in_ok-head.ensures.shows told;
-      left = goes-reached (g.D.Disk.seen c.args.disk.now) c.args.self.now on c.in_ok-head.head c.in-Some.raw c.in-Some.len c.in-Some.is (c.in_ok-head.ensures.head told) c.in_ok-head.ensures.has c.reach.new.self c.reach.ensures.reached;
-    }
+    met g (goal.at.returns-then-not-reach-clause-goes_on g c).After-reach told refl (record { end = refl; shows = c.in_ok-head.ensures.shows told; at = refl; body_end = refl; targets = refl }) refl
 
 pub returns-then-not-reach-clause-corrupt : goal.returns-then-not-reach-clause-corrupt
 returns-then-not-reach-clause-corrupt g c = λ told is.
@@ -26,32 +26,8 @@ returns-then-not-reach-clause-corrupt g c = λ told is.
 
 pub take_outside-requires-clause-goes_on : goal.take_outside-requires-clause-goes_on
 take_outside-requires-clause-goes_on g c = λ told.
-    let on = c.requires.goes_on told in
-    let seen = g.D.Disk.seen c.args.disk.now in
-    let now = g.D.Disk.seen c.head_on.new.disk in
-    let self = c.args.self.now in
-    let same = c.in_ok-head.ensures.rests.same told in
-    record {
-      opens = ap (take 8) same ∙ on.opens;
-      end = on.end ∙ ap (λ (l : List ℕ). length l) (sym same);
-      shows = shows-still c.head_on.new.window seen now (sym same) (c.in_ok-head.ensures.shows told);
-      left = ap (λ (l : List ℕ). left_at l self.at self.body_end c.reach.new.self (read_by self)) same
-          ∙ goes-reached seen self on c.in_ok-head.head c.in-Some.raw c.in-Some.len c.in-Some.is (c.in_ok-head.ensures.head told) c.in_ok-head.ensures.has c.reach.new.self c.reach.ensures.reached
-          ∙ ap (λ (l : List ℕ). found_at 8 start (drop 8 l)) (sym same);
-    }
+    met g (goal.at.take_outside-requires-clause-goes_on g c).After-reach told (c.in_ok-head.ensures.rests.same told) (record { end = refl; shows = c.in_ok-head.ensures.shows told; at = refl; body_end = refl; targets = refl }) refl
 
 pub take_inside-requires-clause-goes_on : goal.take_inside-requires-clause-goes_on
 take_inside-requires-clause-goes_on g c = λ told.
-    let on = c.requires.goes_on told in
-    let seen = g.D.Disk.seen c.args.disk.now in
-    let now = g.D.Disk.seen c.head_on.new.disk in
-    let self = c.args.self.now in
-    let same = c.in_ok-head.ensures.rests.same told in
-    record {
-      opens = ap (take 8) same ∙ on.opens;
-      end = on.end ∙ ap (λ (l : List ℕ). length l) (sym same);
-      shows = shows-still c.head_on.new.window seen now (sym same) (c.in_ok-head.ensures.shows told);
-      left = ap (λ (l : List ℕ). left_at l self.at self.body_end c.reach.new.self (read_by self)) same
-          ∙ goes-reached seen self on c.in_ok-head.head c.in-Some.raw c.in-Some.len c.in-Some.is (c.in_ok-head.ensures.head told) c.in_ok-head.ensures.has c.reach.new.self c.reach.ensures.reached
-          ∙ ap (λ (l : List ℕ). found_at 8 start (drop 8 l)) (sym same);
-    }
+    met g (goal.at.take_inside-requires-clause-goes_on g c).After-reach told (c.in_ok-head.ensures.rests.same told) (record { end = refl; shows = c.in_ok-head.ensures.shows told; at = refl; body_end = refl; targets = refl }) refl

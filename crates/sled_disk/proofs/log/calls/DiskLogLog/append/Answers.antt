@@ -20,9 +20,7 @@ returns-clause-called g c =
     let mid = c.put.new.self in
     let new = c.read_name.new.self in
     let usable = c.read_name.ensures.usable ∙ sym c.in_ok-said.ensures.called.usable in
-    called-then (λ log. log.disk) (λ log. log.next.gate) (λ log. log.next.spilled) (λ log. log.next.buffer.items) (λ log. log.usable) (λ log. log.reads)
-    g.D.Disk.tells g.D.Disk.seen g.D.Disk.may_leave g.D.Disk.moment g.D.Disk.left_since g.D.Disk.counts
-    c.args.self.now mid new _ _ _ c.in_ok-said.said c.in_ok-said.ensures.called c.read_name.ensures.rests c.read_name.ensures.failed_reads c.read_name.ensures.write_faults
+    called-then g.D.Disk c.args.self.now mid new _ _ _ c.in_ok-said.said c.in_ok-said.ensures.called c.read_name.ensures.rests c.read_name.ensures.failed_reads c.read_name.ensures.write_faults
     usable c.read_name.ensures.reads
     (λ l. ap (λ (next : NextFrame). state_in l next.gate next.spilled next.buffer.items new.usable) c.read_name.ensures.next ∙ ap (state_in l mid.next.gate mid.next.spilled mid.next.buffer.items) usable)
 

@@ -15,10 +15,9 @@ use Rattle.sled_disk.proofs.log.calls.DiskLogLog.make_stable.Goals as goal
 pub returns-then-bytes-eq0-clause-called : goal.returns-then-bytes-eq0-clause-called
 returns-then-bytes-eq0-clause-called g c =
     let log = c.args.self.now in
-    called-waits (λ log. log.disk) (λ log. log.next.gate) (λ log. log.next.spilled) (λ log. log.next.buffer.items) (λ log. batch_of log.next) (λ log. log.usable) (λ log. log.reads)
-    g.D.Disk.tells g.D.Disk.seen g.D.Disk.may_leave g.D.Disk.moment g.D.Disk.left_since g.D.Disk.counts (λ disk left told was. g.met.D.Disk.only_now disk left told was)
+    called-waits g.D.Disk (λ disk left told was. g.met.D.Disk.only_now disk left told was) (λ disk told i. g.met.D.Disk.are_bytes disk i told)
     log log _ _ 0 (rests-same g.D.Disk.seen g.D.Disk.may_leave g.D.Disk.moment g.D.Disk.left_since g.D.Disk.tells log.disk) refl c.requires.usable refl (λ told. sym (append-nil (pending_in (g.D.Disk.seen log.disk) log.next.gate log.next.spilled log.next.buffer.items))) refl
-    (λ told. record { heads = chains_of log.pages.items; fits = λ i. g.met.D.Disk.are_bytes log.disk i told; stands = log.stands told c.requires.usable; durable = log.durable told c.requires.usable })
+    c.requires.usable
 
 pub returns-then-bytes-eq0-clause-stable : goal.returns-then-bytes-eq0-clause-stable
 returns-then-bytes-eq0-clause-stable g c = let log = c.args.self.now in none-waits (g.D.Disk.seen log.disk) log.next (size-none log.next.buffer.items (sym c.to_write-bytes.ensures ∙ c.if-bytes-eq0.true)) (sym (opens-by (g.D.Disk.seen log.disk) log.next.gate log.next.spilled log.next.buffer.items) ∙ c.requires.closed)
@@ -35,9 +34,8 @@ returns-clause-called g c =
     let after = c.write_next.new.self in
     let cause = c.in_ok-write_next.ensures.cause in
     let some : 8 < length log.next.buffer.items = size-not log.next.buffer.items (λ none. c.if-bytes-eq0.false (c.to_write-bytes.ensures ∙ none)) in
-    called-wrote (λ log. log.disk) (λ log. log.next.gate) (λ log. log.next.spilled) (λ log. log.next.buffer.items) (λ log. batch_of log.next) (λ log. log.usable) (λ log. log.reads)
-    g.D.Disk.tells g.D.Disk.seen g.D.Disk.may_leave g.D.Disk.moment g.D.Disk.left_since g.D.Disk.counts (λ disk left told was. g.met.D.Disk.only_now disk left told was)
-    log after _ _ log [] refl (rests-same g.D.Disk.seen g.D.Disk.may_leave g.D.Disk.moment g.D.Disk.left_since g.D.Disk.tells log.disk) refl (λ told. record { heads = chains_of log.pages.items; fits = λ i. g.met.D.Disk.are_bytes log.disk i told; stands = log.stands told c.requires.usable; durable = log.durable told c.requires.usable })
+    called-wrote g.D.Disk (λ disk left told was. g.met.D.Disk.only_now disk left told was) (λ disk told i. g.met.D.Disk.are_bytes disk i told)
+    log after _ _ log [] refl (rests-same g.D.Disk.seen g.D.Disk.may_leave g.D.Disk.moment g.D.Disk.left_since g.D.Disk.tells log.disk) refl c.requires.usable
     (λ told. sym (append-nil (pending_in (g.D.Disk.seen log.disk) log.next.gate log.next.spilled log.next.buffer.items)))
     refl c.write_next.ensures.reads
     (progress_of (g.D.Disk.seen log.disk) log.next) (λ told. settles-then (g.D.Disk.seen log.disk) log.next.gate log.next.spilled log.next.buffer.items (batch_of log.next) (chains_of log.pages.items) (λ i. g.met.D.Disk.are_bytes log.disk i told) (log.stands told c.requires.usable) log.next.are_bytes log.next.parsed some (room-small log.next (log.next.fits some)) log.next.own)
@@ -56,9 +54,8 @@ returns-in_err-write_next-clause-called g c =
     let fault : p.0 ≡ WriteFault = p.2 ∙ c.in_err-write_next.ensures.only in
     let some : 8 < length log.next.buffer.items = size-not log.next.buffer.items (λ none. c.if-bytes-eq0.false (c.to_write-bytes.ensures ∙ none)) in
     rw p.1 (rw fault
-    (called-fault (λ log. log.disk) (λ log. log.next.gate) (λ log. log.next.spilled) (λ log. log.next.buffer.items) (λ log. batch_of log.next) (λ log. log.usable) (λ log. log.reads)
-    g.D.Disk.tells g.D.Disk.seen g.D.Disk.may_leave g.D.Disk.moment g.D.Disk.left_since g.D.Disk.counts (λ disk left told was. g.met.D.Disk.only_now disk left told was)
-    log c.write_next.new.self _ _ log [] refl (rests-same g.D.Disk.seen g.D.Disk.may_leave g.D.Disk.moment g.D.Disk.left_since g.D.Disk.tells log.disk) refl (λ told. record { heads = chains_of log.pages.items; fits = λ i. g.met.D.Disk.are_bytes log.disk i told; stands = log.stands told c.requires.usable; durable = log.durable told c.requires.usable })
+    (called-fault g.D.Disk (λ disk left told was. g.met.D.Disk.only_now disk left told was) (λ disk told i. g.met.D.Disk.are_bytes disk i told)
+    log c.write_next.new.self _ _ log [] refl (rests-same g.D.Disk.seen g.D.Disk.may_leave g.D.Disk.moment g.D.Disk.left_since g.D.Disk.tells log.disk) refl c.requires.usable
     (λ told. sym (append-nil (pending_in (g.D.Disk.seen log.disk) log.next.gate log.next.spilled log.next.buffer.items)))
     refl c.write_next.ensures.reads
     (progress_of (g.D.Disk.seen log.disk) log.next) (λ told. settles-then (g.D.Disk.seen log.disk) log.next.gate log.next.spilled log.next.buffer.items (batch_of log.next) (chains_of log.pages.items) (λ i. g.met.D.Disk.are_bytes log.disk i told) (log.stands told c.requires.usable) log.next.are_bytes log.next.parsed some (room-small log.next (log.next.fits some)) log.next.own)

@@ -44,10 +44,9 @@ returns-clause-found g c = λ told.
 pub returns-clause-called : goal.returns-clause-called
 returns-clause-called g c =
     let log = c.args.self.now in
-    called-read (λ log. log.disk) (λ log. log.next.gate) (λ log. log.next.spilled) (λ log. log.next.buffer.items) (λ log. batch_of log.next) (λ log. log.usable) (λ log. log.reads)
-    g.D.Disk.tells g.D.Disk.seen g.D.Disk.may_leave g.D.Disk.moment g.D.Disk.left_since g.D.Disk.counts (λ disk left told was. g.met.D.Disk.only_now disk left told was)
+    called-read g.D.Disk (λ disk left told was. g.met.D.Disk.only_now disk left told was) (λ disk told i. g.met.D.Disk.are_bytes disk i told)
     log c.payload.new.self _ c.payload.ensures.usable (record { gate = ap (λ (next : NextFrame). next.gate) c.payload.ensures.next; spilled = ap (λ (next : NextFrame). next.spilled) c.payload.ensures.next; records = ap (λ (next : NextFrame). records_behind next.buffer.items) c.payload.ensures.next }) (c.payload.ensures.reads ∙ c.count.ensures) c.payload.ensures.rests
-    (λ told. record { heads = chains_of log.pages.items; fits = λ i. g.met.D.Disk.are_bytes log.disk i told; stands = log.stands told c.requires.usable; durable = log.durable told c.requires.usable })
+    c.requires.usable
     c.payload.ensures.faults.failed_reads c.payload.ensures.faults.write_faults (c.in-Some.head.kind, c.in_ok-payload.payload)
 
 pub returns-clause-room : goal.returns-clause-room
@@ -111,10 +110,9 @@ returns-in_err-payload-clause-called g c =
     let head = c.in-Some.head in
     let p = err_from_is_err_and c.from_residual.result c.from_residual.ensures.1 in
     rw p.1 (rw p.2
-    (called-unread (λ log. log.disk) (λ log. log.next.gate) (λ log. log.next.spilled) (λ log. log.next.buffer.items) (λ log. batch_of log.next) (λ log. log.usable) (λ log. log.reads)
-    g.D.Disk.tells g.D.Disk.seen g.D.Disk.may_leave g.D.Disk.moment g.D.Disk.left_since g.D.Disk.counts (λ disk left told was. g.met.D.Disk.only_now disk left told was)
+    (called-unread g.D.Disk (λ disk left told was. g.met.D.Disk.only_now disk left told was) (λ disk told i. g.met.D.Disk.are_bytes disk i told)
     log c.payload.new.self _ c.payload.ensures.usable (record { gate = ap (λ (next : NextFrame). next.gate) c.payload.ensures.next; spilled = ap (λ (next : NextFrame). next.spilled) c.payload.ensures.next; records = ap (λ (next : NextFrame). records_behind next.buffer.items) c.payload.ensures.next }) (c.payload.ensures.reads ∙ c.count.ensures) c.payload.ensures.rests
-    (λ told. record { heads = chains_of log.pages.items; fits = λ i. g.met.D.Disk.are_bytes log.disk i told; stands = log.stands told c.requires.usable; durable = log.durable told c.requires.usable })
+    c.requires.usable
     c.payload.ensures.faults.failed_reads c.payload.ensures.faults.write_faults _ c.in_err-payload.field-0.0 (⊎_elim (λ m. inl m) (λ f. inr (inl f)) c.in_err-payload.ensures.only)
     (λ told. (no-other c.in_err-payload.field-0.0 c.in_err-payload.ensures.only).1)
     (λ is. c.in_err-payload.ensures.faults.read (ap (λ e. Err e) is))))
@@ -122,10 +120,9 @@ returns-in_err-payload-clause-called g c =
 pub returns-in_default-clause-called : goal.returns-in_default-clause-called
 returns-in_default-clause-called g c =
     let log = c.args.self.now in
-    called-unread (λ log. log.disk) (λ log. log.next.gate) (λ log. log.next.spilled) (λ log. log.next.buffer.items) (λ log. batch_of log.next) (λ log. log.usable) (λ log. log.reads)
-    g.D.Disk.tells g.D.Disk.seen g.D.Disk.may_leave g.D.Disk.moment g.D.Disk.left_since g.D.Disk.counts (λ disk left told was. g.met.D.Disk.only_now disk left told was)
+    called-unread g.D.Disk (λ disk left told was. g.met.D.Disk.only_now disk left told was) (λ disk told i. g.met.D.Disk.are_bytes disk i told)
     log _ _ c.requires.usable (record { gate = refl; spilled = refl; records = refl }) c.count.ensures (rests-same g.D.Disk.seen g.D.Disk.may_leave g.D.Disk.moment g.D.Disk.left_since g.D.Disk.tells log.disk)
-    (λ told. record { heads = chains_of log.pages.items; fits = λ i. g.met.D.Disk.are_bytes log.disk i told; stands = log.stands told c.requires.usable; durable = log.durable told c.requires.usable })
+    c.requires.usable
     (omega arith) (omega arith) _ Corruption (inr (inr refl))
     (λ told is. let k = known-place (g.D.Disk.seen log.disk) log.next.gate log.next.spilled log.next.buffer.items log.usable (batch_of log.next) (chains_of log.pages.items) (λ i. g.met.D.Disk.are_bytes log.disk i told) (log.stands told c.requires.usable) log.next.are_bytes log.next.front log.next.parsed log.next.own c.args.pid c.args.lsn c.args.pointer no_head (c.requires.known told) in absurd (c.in_default.not-Inline _ k.2))
     (λ is. cc)
@@ -133,10 +130,9 @@ returns-in_default-clause-called g c =
 pub returns-in_default-find-clause-called : goal.returns-in_default-find-clause-called
 returns-in_default-find-clause-called g c =
     let log = c.args.self.now in
-    called-unread (λ log. log.disk) (λ log. log.next.gate) (λ log. log.next.spilled) (λ log. log.next.buffer.items) (λ log. batch_of log.next) (λ log. log.usable) (λ log. log.reads)
-    g.D.Disk.tells g.D.Disk.seen g.D.Disk.may_leave g.D.Disk.moment g.D.Disk.left_since g.D.Disk.counts (λ disk left told was. g.met.D.Disk.only_now disk left told was)
+    called-unread g.D.Disk (λ disk left told was. g.met.D.Disk.only_now disk left told was) (λ disk told i. g.met.D.Disk.are_bytes disk i told)
     log _ _ c.requires.usable (record { gate = refl; spilled = refl; records = refl }) c.count.ensures (rests-same g.D.Disk.seen g.D.Disk.may_leave g.D.Disk.moment g.D.Disk.left_since g.D.Disk.tells log.disk)
-    (λ told. record { heads = chains_of log.pages.items; fits = λ i. g.met.D.Disk.are_bytes log.disk i told; stands = log.stands told c.requires.usable; durable = log.durable told c.requires.usable })
+    c.requires.usable
     (omega arith) (omega arith) _ Corruption (inr (inr refl))
     (λ told is.
     let k = known-place (g.D.Disk.seen log.disk) log.next.gate log.next.spilled log.next.buffer.items log.usable (batch_of log.next) (chains_of log.pages.items) (λ i. g.met.D.Disk.are_bytes log.disk i told) (log.stands told c.requires.usable) log.next.are_bytes log.next.front log.next.parsed log.next.own c.args.pid c.args.lsn c.args.pointer no_head (c.requires.known told) in

@@ -27,12 +27,10 @@ pub returns-clause-called : goal.returns-clause-called
 returns-clause-called g c =
     let log = c.args.self.now in
     let next = log.next in
-    called-nothing (λ log. log.disk) (λ log. log.next.gate) (λ log. log.next.spilled) (λ log. log.next.buffer.items) (λ log. batch_of log.next) (λ log. log.usable) (λ log. log.reads)
-    g.D.Disk.tells g.D.Disk.seen g.D.Disk.may_leave g.D.Disk.moment g.D.Disk.left_since g.D.Disk.counts (λ disk left told was. g.met.D.Disk.only_now disk left told was)
+    called-nothing g.D.Disk (λ disk left told was. g.met.D.Disk.only_now disk left told was) (λ disk told i. g.met.D.Disk.are_bytes disk i told)
     log c.pages_of.result c.pages_of.ensures.only
     (λ told is. c.pages_of.ensures.sound (subst (λ (l : List (Vec Head)). AllByRecursion AreHeads (chains_of l)) (sym c.deref.ensures.value) log.heads) is)
     c.requires.usable
-    (λ told. record { heads = chains_of log.pages.items; fits = λ i. g.met.D.Disk.are_bytes log.disk i told; stands = log.stands told c.requires.usable; durable = log.durable told c.requires.usable })
 
 pub returns-clause-sized : goal.returns-clause-sized
 returns-clause-sized g c = λ told.

@@ -29,12 +29,11 @@ named blob (entry ∷ chain) h = by entry.place.pointer refl h.1
 pub returns-clause-called : goal.returns-clause-called
 returns-clause-called g c =
     let log = c.args.self.now in
-    called-refused (λ log. log.disk) (λ log. log.next.gate) (λ log. log.next.spilled) (λ log. log.next.buffer.items) (λ log. batch_of log.next) (λ log. log.usable) (λ log. log.reads)
-    g.D.Disk.tells g.D.Disk.seen g.D.Disk.may_leave g.D.Disk.moment g.D.Disk.left_since g.D.Disk.counts (λ disk left told was. g.met.D.Disk.only_now disk left told was)
+    called-refused g.D.Disk (λ disk left told was. g.met.D.Disk.only_now disk left told was) (λ disk told i. g.met.D.Disk.are_bytes disk i told)
     log log _ _ Corruption (inr (inr refl))
     (λ told is.
     let blob = named _ _ (c.requires.holds told) in
     let k = known-place (g.D.Disk.seen log.disk) log.next.gate log.next.spilled log.next.buffer.items log.usable (batch_of log.next) (chains_of log.pages.items) (λ i. g.met.D.Disk.are_bytes log.disk i told) (log.stands told c.requires.usable) log.next.are_bytes log.next.front log.next.parsed log.next.own c.args._pid blob.0 _ no_head blob.2 in
     cc)
     (rests-same g.D.Disk.seen g.D.Disk.may_leave g.D.Disk.moment g.D.Disk.left_since g.D.Disk.tells log.disk) refl c.requires.usable refl (record { gate = refl; spilled = refl; records = refl })
-    (λ told. record { heads = chains_of log.pages.items; fits = λ i. g.met.D.Disk.are_bytes log.disk i told; stands = log.stands told c.requires.usable; durable = log.durable told c.requires.usable })
+    c.requires.usable
