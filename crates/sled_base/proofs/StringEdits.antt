@@ -11,7 +11,7 @@ use Rattle.sled_base.specs.Payloads.Numbers.{written_u64, byte_count}
 use Rattle.sled_base.specs.Payloads.NumberLaws.{chosen, length-low_bytes}
 use Rattle.sled_base.specs.Payloads.ByteStrings.{written_bytes, CanWriteBytes}
 use Rattle.sled_base.specs.Strings.{ends_from, strings_in, Keeps, begin_of, IsPlain, with_at, without_at}
-use Rattle.sled_base.specs.StringLaws.{strings_are, keeps_own, written, written_both, ends_all, all_both, all_front, ends_count, parts_at, lies_at, spliced, can_move, ends_last_between}
+use Rattle.sled_base.specs.StringLaws.{strings_are, strings_count, keeps_own, written, written_both, ends_all, all_both, all_front, ends_count, parts_at, lies_at, spliced, can_move, ends_last_between}
 
 pub on_ok_so : {T E : Type 0} {P Q : Type 0} (r : Result T E) → (P → Q) → OnOk r P → OnOk r Q
 on_ok_so (Ok x) so h = so h
@@ -97,6 +97,10 @@ next_end f ends now i lt is =
 
 -- ---- one string more
 
+-- as many are seen as there are ends
+pub as_seen : {seen : List Bytes} (bytes : Bytes) (ends : List ℕ) → strings_in bytes ends ≡ seen → length ends ≡ length seen
+as_seen bytes ends is = omega (arith, strings_count 0 bytes ends, ap length is)
+
 module _ (strings : List Bytes) (bytes : Bytes) (ends : List ℕ) (keeps : Keeps strings bytes ends) where
   pub as_many : length ends ≡ length strings
   as_many = omega (arith, ap length keeps.ends_are, ends_count 0 strings)
@@ -143,91 +147,104 @@ module _ (strings : List Bytes) (bytes : Bytes) (ends : List ℕ) (keeps : Keeps
         let base = can_move front [] (string ∷ []) back bytes ends parts (omega (arith, len)) in
         subst (AllByRecursion (λ end. (0 ≤ end) × (end - 0 + size < 2 ^ 64))) (ap (λ n. drop n ends) from ∙ sym rest_is) (subst (λ n. AllByRecursion (λ end. (0 ≤ end) × (end - 0 + n < 2 ^ 64)) (drop (length front + 0) ends)) len base)
 
-  -- ---- another string, and one string less
+-- ---- another string, and one string less
 
-  module _ (place : ℕ) (lt : place < length strings) (start end : ℕ) (start_is : start ≡ begin_of ends place) (end_is : end ≡ get_or ends place 0) where
-    abbrev pub old : Bytes
-    old = get_or strings place []
+-- the bounds of the string at a place, as they are read
+pub record IsBounded (bytes : Bytes) (ends : List ℕ) (place start end : ℕ) : Type 0 where
+  pub keeps : Keeps (strings_in bytes ends) bytes ends
+  pub within : place < length ends
+  pub start_is : start ≡ begin_of ends place
+  pub end_is : end ≡ get_or ends place 0
 
-    abbrev pub before : List Bytes
-    before = take place strings
+module _ {bytes : Bytes} {ends : List ℕ} {place start end : ℕ} (b : IsBounded bytes ends place start end) where
+  abbrev strings : List Bytes
+  strings = strings_in bytes ends
 
-    abbrev pub behind : List Bytes
-    behind = drop (place + 1) strings
+  lt : place < length strings
+  lt = omega (arith, b.within, strings_count 0 bytes ends)
 
-    one_old : written (old ∷ []) ≡ written_bytes old
-    one_old = append-nil (written_bytes old)
+  abbrev pub old : Bytes
+  old = get_or strings place []
 
-    pub order : (start ≤ end) × (end ≤ length bytes)
-    order =
-        let lies = lies_at strings bytes ends keeps place [] lt in
-        (omega (arith, start_is, end_is, lies.begin, lies.end), omega (arith, end_is, lies.end, lies.within))
+  abbrev pub before : List Bytes
+  before = take place strings
 
-    taken_is : length (written (old ∷ [])) ≡ end - start
-    taken_is =
-        let lies = lies_at strings bytes ends keeps place [] lt in
-        omega (arith, ap length one_old, start_is, end_is, lies.begin, lies.end)
+  abbrev pub behind : List Bytes
+  behind = drop (place + 1) strings
 
-    all_parts : Keeps (before ++ ((old ∷ []) ++ behind)) bytes ends
-    all_parts = subst (λ s. Keeps s bytes ends) (sym (lies_at strings bytes ends keeps place [] lt).parts) keeps
+  one_old : written (old ∷ []) ≡ written_bytes old
+  one_old = append-nil (written_bytes old)
 
-    next : drop place ends ≡ end ∷ drop (place + 1) ends
-    next = drop_more ends place 0 (omega (arith, as_many)) ∙ ap (λ e. e ∷ drop (place + 1) ends) (sym end_is)
+  pub order : (start ≤ end) × (end ≤ length bytes)
+  order =
+      let lies = lies_at strings bytes ends b.keeps place [] lt in
+      (omega (arith, b.start_is, b.end_is, lies.begin, lies.end), omega (arith, b.end_is, lies.end, lies.within))
 
-    pub replaced : (string : Bytes) (size : ℕ) → size ≡ length (written_bytes string) → CanWriteBytes string → Keeps (before ++ string ∷ behind) (take start bytes ++ (written_bytes string ++ drop end bytes)) (take place ends ++ map (λ e. e - (end - start) + size) (drop place ends))
-    replaced string size size_is can =
-        let lies = lies_at strings bytes ends keeps place [] lt in
-        let base = spliced before (old ∷ []) (string ∷ []) behind bytes ends all_parts (can, tt) start end (start_is ∙ lies.begin) (omega (arith, end_is, lies.end, ap length one_old)) in
-        let one : written (string ∷ []) ≡ written_bytes string = append-nil (written_bytes string) in
-        let len : length (written (string ∷ [])) ≡ size = ap length one ∙ sym size_is in
-        let from : length before + 1 ≡ place + 1 = omega (arith, lies.many) in
-        let first : end - (end - start) + size ≡ start + size = omega (arith, order) in
-        let bytes_eq : take start bytes ++ (written (string ∷ []) ++ drop end bytes) ≡ take start bytes ++ (written_bytes string ++ drop end bytes) = ap (λ w. take start bytes ++ (w ++ drop end bytes)) one in
-        let ends_eq : take (length before) ends ++ (ends_from start (string ∷ []) ++ map (λ e. e - length (written (old ∷ [])) + length (written (string ∷ []))) (drop (length before + 1) ends)) ≡ take place ends ++ map (λ e. e - (end - start) + size) (drop place ends) =
-        (λ i. take (lies.many i) ends ++ ((start + sym size_is i) ∷ map (λ e. e - taken_is i + len i) (drop (from i) ends))) ∙ (λ i. take place ends ++ (sym first i ∷ map (λ e. e - (end - start) + size) (drop (place + 1) ends))) ∙ ap (λ es. take place ends ++ map (λ e. e - (end - start) + size) es) (sym next) in
-        subst (λ b. Keeps (before ++ string ∷ behind) b (take place ends ++ map (λ e. e - (end - start) + size) (drop place ends))) bytes_eq (subst (λ e. Keeps (before ++ string ∷ behind) (take start bytes ++ (written (string ∷ []) ++ drop end bytes)) e) ends_eq base)
+  taken_is : length (written (old ∷ [])) ≡ end - start
+  taken_is =
+      let lies = lies_at strings bytes ends b.keeps place [] lt in
+      omega (arith, ap length one_old, b.start_is, b.end_is, lies.begin, lies.end)
 
-    pub can_replace : (size : ℕ) → length bytes - (end - start) + size < 2 ^ 64 → AllByRecursion (λ e. (end - start ≤ e) × (e - (end - start) + size < 2 ^ 64)) (drop place ends)
-    can_replace size fits = subst (AllByRecursion (λ e. (end - start ≤ e) × (e - (end - start) + size < 2 ^ 64))) (sym next) ((omega (arith, order), omega (arith, order, fits)), later)
-      where
-        from : length before + 1 ≡ place + 1
-        from = omega (arith, (lies_at strings bytes ends keeps place [] lt).many)
+  all_parts : Keeps (before ++ ((old ∷ []) ++ behind)) bytes ends
+  all_parts = subst (λ s. Keeps s bytes ends) (sym (lies_at strings bytes ends b.keeps place [] lt).parts) b.keeps
 
-        lift : (n : ℕ) (es : List ℕ) → AllByRecursion (λ e. (length (written (old ∷ [])) ≤ e) × (e ≤ length bytes)) es → AllByRecursion (λ e. (end - start ≤ e) × (e - (end - start) + size < 2 ^ 64)) es
-        lift n [] all = tt
-        lift n (e ∷ es) all = ((omega (arith, taken_is, all.0.0), omega (arith, fits, taken_is, all.0.0, all.0.1)), lift n es all.1)
+  next : drop place ends ≡ end ∷ drop (place + 1) ends
+  next = drop_more ends place 0 (omega (arith, b.within)) ∙ ap (λ e. e ∷ drop (place + 1) ends) (sym b.end_is)
 
-        later : AllByRecursion (λ e. (end - start ≤ e) × (e - (end - start) + size < 2 ^ 64)) (drop (place + 1) ends)
-        later = subst (λ n. AllByRecursion (λ e. (end - start ≤ e) × (e - (end - start) + size < 2 ^ 64)) (drop n ends)) from (lift 0 (drop (length before + 1) ends) (ends_last_between before (old ∷ []) [] behind bytes ends all_parts))
+  pub replaced : (string : Bytes) (size : ℕ) → size ≡ length (written_bytes string) → CanWriteBytes string → Keeps (before ++ string ∷ behind) (take start bytes ++ (written_bytes string ++ drop end bytes)) (take place ends ++ map (λ e. e - (end - start) + size) (drop place ends))
+  replaced string size size_is can =
+      let lies = lies_at strings bytes ends b.keeps place [] lt in
+      let base = spliced before (old ∷ []) (string ∷ []) behind bytes ends all_parts (can, tt) start end (b.start_is ∙ lies.begin) (omega (arith, b.end_is, lies.end, ap length one_old)) in
+      let one : written (string ∷ []) ≡ written_bytes string = append-nil (written_bytes string) in
+      let len : length (written (string ∷ [])) ≡ size = ap length one ∙ sym size_is in
+      let from : length before + 1 ≡ place + 1 = omega (arith, lies.many) in
+      let first : end - (end - start) + size ≡ start + size = omega (arith, order) in
+      let bytes_eq : take start bytes ++ (written (string ∷ []) ++ drop end bytes) ≡ take start bytes ++ (written_bytes string ++ drop end bytes) = ap (λ w. take start bytes ++ (w ++ drop end bytes)) one in
+      let ends_eq : take (length before) ends ++ (ends_from start (string ∷ []) ++ map (λ e. e - length (written (old ∷ [])) + length (written (string ∷ []))) (drop (length before + 1) ends)) ≡ take place ends ++ map (λ e. e - (end - start) + size) (drop place ends) =
+      (λ i. take (lies.many i) ends ++ ((start + sym size_is i) ∷ map (λ e. e - taken_is i + len i) (drop (from i) ends))) ∙ (λ i. take place ends ++ (sym first i ∷ map (λ e. e - (end - start) + size) (drop (place + 1) ends))) ∙ ap (λ es. take place ends ++ map (λ e. e - (end - start) + size) es) (sym next) in
+      subst (λ l. Keeps (before ++ string ∷ behind) l (take place ends ++ map (λ e. e - (end - start) + size) (drop place ends))) bytes_eq (subst (λ e. Keeps (before ++ string ∷ behind) (take start bytes ++ (written (string ∷ []) ++ drop end bytes)) e) ends_eq base)
 
-    -- a string of the same size leaves the ends
-    pub replaced_same : (string : Bytes) (size : ℕ) → size ≡ length (written_bytes string) → CanWriteBytes string → size ≡ end - start → length bytes < 2 ^ 64 → Keeps (before ++ string ∷ behind) (take start bytes ++ (written_bytes string ++ drop end bytes)) ends
-    replaced_same string size size_is can same fits =
-        let stay : map (λ e. e - (end - start) + size) (drop place ends) ≡ drop place ends = stays (drop place ends) (can_replace size (omega (arith, order, same, fits))) in
-        subst (Keeps (before ++ string ∷ behind) (take start bytes ++ (written_bytes string ++ drop end bytes))) (ap (λ es. take place ends ++ es) stay ∙ take-append-drop place ends) (replaced string size size_is can)
-      where
-        stays : (es : List ℕ) → AllByRecursion (λ e. (end - start ≤ e) × (e - (end - start) + size < 2 ^ 64)) es → map (λ e. e - (end - start) + size) es ≡ es
-        stays [] all = refl
-        stays (e ∷ es) all = let here : e - (end - start) + size ≡ e = omega (arith, all.0.0, same) in λ i. here i ∷ stays es all.1 i
+  pub can_replace : (size : ℕ) → length bytes - (end - start) + size < 2 ^ 64 → AllByRecursion (λ e. (end - start ≤ e) × (e - (end - start) + size < 2 ^ 64)) (drop place ends)
+  can_replace size fits = subst (AllByRecursion (λ e. (end - start ≤ e) × (e - (end - start) + size < 2 ^ 64))) (sym next) ((omega (arith, order), omega (arith, order, fits)), later)
+    where
+      from : length before + 1 ≡ place + 1
+      from = omega (arith, (lies_at strings bytes ends b.keeps place [] lt).many)
 
-    pub removed : (shorter : List ℕ) → shorter ≡ take place ends ++ drop (place + 1) ends → Keeps (before ++ behind) (take start bytes ++ drop end bytes) (take place shorter ++ map (λ e. e - (end - start) + 0) (drop place shorter))
-    removed shorter shorter_is =
-        let lies = lies_at strings bytes ends keeps place [] lt in
-        let base = spliced before (old ∷ []) [] behind bytes ends all_parts tt start end (start_is ∙ lies.begin) (omega (arith, end_is, lies.end, ap length one_old)) in
-        let from : length before + 1 ≡ place + 1 = omega (arith, lies.many) in
-        let count : length (take place ends) ≡ place = length-take-le place ends (omega (arith, as_many)) in
-        let kept : take place shorter ≡ take place ends = ap (take place) shorter_is ∙ take_at (take place ends) (drop (place + 1) ends) place count in
-        let rest : drop place shorter ≡ drop (place + 1) ends = ap (drop place) shorter_is ∙ drop_at (take place ends) (drop (place + 1) ends) place count in
-        let ends_eq : take (length before) ends ++ ([] ++ map (λ e. e - length (written (old ∷ [])) + 0) (drop (length before + 1) ends)) ≡ take place shorter ++ map (λ e. e - (end - start) + 0) (drop place shorter) =
-        (λ i. take (lies.many i) ends ++ map (λ e. e - taken_is i + 0) (drop (from i) ends)) ∙ (λ i. sym kept i ++ map (λ e. e - (end - start) + 0) (sym rest i)) in
-        subst (λ e. Keeps (before ++ behind) (take start bytes ++ drop end bytes) e) ends_eq base
+      lift : (n : ℕ) (es : List ℕ) → AllByRecursion (λ e. (length (written (old ∷ [])) ≤ e) × (e ≤ length bytes)) es → AllByRecursion (λ e. (end - start ≤ e) × (e - (end - start) + size < 2 ^ 64)) es
+      lift n [] all = tt
+      lift n (e ∷ es) all = ((omega (arith, taken_is, all.0.0), omega (arith, fits, taken_is, all.0.0, all.0.1)), lift n es all.1)
 
-    pub can_remove : (shorter : List ℕ) → shorter ≡ take place ends ++ drop (place + 1) ends → length bytes < 2 ^ 64 → AllByRecursion (λ e. (end - start ≤ e) × (e - (end - start) + 0 < 2 ^ 64)) (drop place shorter)
-    can_remove shorter shorter_is fits =
-        let count : length (take place ends) ≡ place = length-take-le place ends (omega (arith, as_many)) in
-        let rest : drop place shorter ≡ drop (place + 1) ends = ap (drop place) shorter_is ∙ drop_at (take place ends) (drop (place + 1) ends) place count in
-        let all = can_replace 0 (omega (arith, fits)) in
-        subst (AllByRecursion (λ e. (end - start ≤ e) × (e - (end - start) + 0 < 2 ^ 64))) (sym rest) (subst (AllByRecursion (λ e. (end - start ≤ e) × (e - (end - start) + 0 < 2 ^ 64))) next all).1
+      later : AllByRecursion (λ e. (end - start ≤ e) × (e - (end - start) + size < 2 ^ 64)) (drop (place + 1) ends)
+      later = subst (λ n. AllByRecursion (λ e. (end - start ≤ e) × (e - (end - start) + size < 2 ^ 64)) (drop n ends)) from (lift 0 (drop (length before + 1) ends) (ends_last_between before (old ∷ []) [] behind bytes ends all_parts))
+
+  -- a string of the same size leaves the ends
+  pub replaced_same : (string : Bytes) (size : ℕ) → size ≡ length (written_bytes string) → CanWriteBytes string → size ≡ end - start → length bytes < 2 ^ 64 → Keeps (before ++ string ∷ behind) (take start bytes ++ (written_bytes string ++ drop end bytes)) ends
+  replaced_same string size size_is can same fits =
+      let stay : map (λ e. e - (end - start) + size) (drop place ends) ≡ drop place ends = stays (drop place ends) (can_replace size (omega (arith, order, same, fits))) in
+      subst (Keeps (before ++ string ∷ behind) (take start bytes ++ (written_bytes string ++ drop end bytes))) (ap (λ es. take place ends ++ es) stay ∙ take-append-drop place ends) (replaced string size size_is can)
+    where
+      stays : (es : List ℕ) → AllByRecursion (λ e. (end - start ≤ e) × (e - (end - start) + size < 2 ^ 64)) es → map (λ e. e - (end - start) + size) es ≡ es
+      stays [] all = refl
+      stays (e ∷ es) all = let here : e - (end - start) + size ≡ e = omega (arith, all.0.0, same) in λ i. here i ∷ stays es all.1 i
+
+  pub removed : (shorter : List ℕ) → shorter ≡ take place ends ++ drop (place + 1) ends → Keeps (before ++ behind) (take start bytes ++ drop end bytes) (take place shorter ++ map (λ e. e - (end - start) + 0) (drop place shorter))
+  removed shorter shorter_is =
+      let lies = lies_at strings bytes ends b.keeps place [] lt in
+      let base = spliced before (old ∷ []) [] behind bytes ends all_parts tt start end (b.start_is ∙ lies.begin) (omega (arith, b.end_is, lies.end, ap length one_old)) in
+      let from : length before + 1 ≡ place + 1 = omega (arith, lies.many) in
+      let count : length (take place ends) ≡ place = length-take-le place ends (omega (arith, b.within)) in
+      let kept : take place shorter ≡ take place ends = ap (take place) shorter_is ∙ take_at (take place ends) (drop (place + 1) ends) place count in
+      let rest : drop place shorter ≡ drop (place + 1) ends = ap (drop place) shorter_is ∙ drop_at (take place ends) (drop (place + 1) ends) place count in
+      let ends_eq : take (length before) ends ++ ([] ++ map (λ e. e - length (written (old ∷ [])) + 0) (drop (length before + 1) ends)) ≡ take place shorter ++ map (λ e. e - (end - start) + 0) (drop place shorter) =
+      (λ i. take (lies.many i) ends ++ map (λ e. e - taken_is i + 0) (drop (from i) ends)) ∙ (λ i. sym kept i ++ map (λ e. e - (end - start) + 0) (sym rest i)) in
+      subst (λ e. Keeps (before ++ behind) (take start bytes ++ drop end bytes) e) ends_eq base
+
+  pub can_remove : (shorter : List ℕ) → shorter ≡ take place ends ++ drop (place + 1) ends → length bytes < 2 ^ 64 → AllByRecursion (λ e. (end - start ≤ e) × (e - (end - start) + 0 < 2 ^ 64)) (drop place shorter)
+  can_remove shorter shorter_is fits =
+      let count : length (take place ends) ≡ place = length-take-le place ends (omega (arith, b.within)) in
+      let rest : drop place shorter ≡ drop (place + 1) ends = ap (drop place) shorter_is ∙ drop_at (take place ends) (drop (place + 1) ends) place count in
+      let all = can_replace 0 (omega (arith, fits)) in
+      subst (AllByRecursion (λ e. (end - start ≤ e) × (e - (end - start) + 0 < 2 ^ 64))) (sym rest) (subst (AllByRecursion (λ e. (end - start ≤ e) × (e - (end - start) + 0 < 2 ^ 64))) next all).1
 
 -- ---- an edit that may be refused
 

@@ -1,13 +1,11 @@
 use Rattle.std.proofs.Common.{length, refl, ap, sym, arith}
 use Rattle.std.proofs.lemmas.Option.{slice_get_read}
 use Rattle.sled_base.specs.Strings.{strings_in}
-use Rattle.sled_base.specs.StringLaws.{strings_count}
+use Rattle.sled_base.proofs.StringEdits.{as_seen}
 use Rattle.sled_base.proofs.strings.Strings.get.Goals as goal
 
 pub string_at-requires-clause-within : goal.string_at-requires-clause-within
-string_at-requires-clause-within c =
-    let within = rw (← c.self.view_is) at c.requires in
-    omega (arith, within, ap length c.deref.ensures.value, strings_count 0 c.self.inside.bytes.items c.self.inside.ends.items)
+string_at-requires-clause-within c = omega (arith, c.requires, ap length c.deref.ensures.value, as_seen c.self.inside.bytes.items c.self.inside.ends.items c.self.view_is)
 
 pub returns : goal.returns
 returns c =

@@ -1,11 +1,11 @@
 use Rattle.std.proofs.Common.{arith}
-use Rattle.sled_base.specs.StringLaws.{strings_count, strings_are, keeps_own}
+use Rattle.sled_base.proofs.StringEdits.{as_seen}
+use Rattle.sled_base.specs.StringLaws.{strings_are, keeps_own}
 use Rattle.sled_base.proofs.strings.Strings.remove.Goals as goal
 
 pub remove-requires-clause-within : goal.remove-requires-clause-within
 remove-requires-clause-within c =
-    let within = rw (← c.self.view_is) at c.requires in
-    omega (arith, within, strings_count 0 c.self.inside.bytes.items c.self.inside.ends.items)
+    omega (arith, c.requires, as_seen c.self.inside.bytes.items c.self.inside.ends.items c.self.view_is)
 
 pub invariant_of-self : goal.invariant_of-self
 invariant_of-self c = keeps_own _ _ _ c.remove.ensures

@@ -1,12 +1,9 @@
 use Rattle.std.proofs.Common.{arith}
-use Rattle.sled_base.specs.StringLaws.{strings_count}
-use Rattle.sled_base.proofs.StringEdits.{kept_after, strings_after}
+use Rattle.sled_base.proofs.StringEdits.{as_seen, kept_after, strings_after}
 use Rattle.sled_base.proofs.strings.Strings.replace.Goals as goal
 
 pub replace-requires-clause-within : goal.replace-requires-clause-within
-replace-requires-clause-within c =
-    let within = rw (← c.self.view_is) at c.requires.within in
-    omega (arith, within, strings_count 0 c.self.inside.bytes.items c.self.inside.ends.items)
+replace-requires-clause-within c = omega (arith, c.requires.within, as_seen c.self.inside.bytes.items c.self.inside.ends.items c.self.view_is)
 
 pub invariant_of-self : goal.invariant_of-self
 invariant_of-self c = kept_after _ c.self.inside.bytes.items c.self.inside.ends.items _ _ c.replace.result c.self.invariant c.replace.ensures.ok c.replace.ensures.err
