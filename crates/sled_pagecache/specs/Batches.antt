@@ -1,5 +1,5 @@
 -- Opening and closing a batch, its guard, and what a crash leaves of one.
-use Rattle.std.specs.Prelude.{◌≡◌, ◌||◌, true, false, Result, IfErr, OnOk, OnErr, IsErrOf, Ok, Err, ⊤, [], ◌⊎◌, List, ◌∷◌}
+use Rattle.std.specs.Prelude.{◌≡◌, ◌||◌, true, false, Result, IfErr, OnOk, OnErr, IsErrOf, Ok, Err, ⊤, [], ◌⊎◌, List, ◌∷◌, ◌++◌}
 use Rattle.sled_base.specs.declared.types.Device.TheVariants.{Write}
 use Rattle.sled_base.specs.declared.types.Error.{Error}
 use Rattle.sled_base.specs.declared.types.Error.TheVariants.{Io}
@@ -121,3 +121,9 @@ module _ {L : Type 0} (g : Ghosts L) where
   -- The pages are those after a prefix of what the calls write.
   abbrev pub StandsInPart : Cache L → List (Call × Answer) → Cache L → Logged → State → Type 0
   StandsInPart old calls new held s = Stand old calls new held s (λ changes t. AreAfterPrefix held changes)
+
+  -- This holds of every batch that is closed by this call, whatever the call returned.
+  abbrev pub EachClosed : Call → (Result (Unit {0}) Error → Answer) → (Cache L → List (Call × Answer) → Cache L → Logged → State → Type 0) → Type 0
+  EachClosed closing said Holds =
+      (old mid new : Cache L) (calls : List (Call × Answer)) (result : Result (Unit {0}) Error) → RunsBatch old calls mid → Steps g mid closing (said result) new
+      → (held : Logged) (s : State) → Represents g old held s → s.fault ≡ false → Holds old (with_pin calls ++ (closing, said result) ∷ []) new held s

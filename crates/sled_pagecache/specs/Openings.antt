@@ -92,3 +92,7 @@ ids_of (Lasted config first calls last ending left ∷ openings) = ids_in calls 
 -- each is greater than every one before it
 abbrev pub AreRising : List ℕ → Type 0
 AreRising ids = AllPairs (λ earlier later. earlier < later) ids
+
+-- Every id that is generated in a sequence of openings from an empty log is greater than all before it, if no interval of ids gets shorter.
+abbrev pub EveryIdIsNew : {L : Type 0} → Ghosts L → Type 0
+EveryIdIsNew {L} g = (log : L) (openings : List (Opening L)) → IsEmpty g log → IsRun g log openings → KeepIntervals 0 openings → AreRising (ids_of openings)

@@ -16,7 +16,7 @@ use Rattle.sled_log.specs.LogState.{IsPrefix}
 use Rattle.sled_log.specs.declared.log.Log.{Ghosts}
 use Rattle.sled_pagecache.specs.Cache.{Cache}
 use Rattle.sled_pagecache.specs.Calls.{StepOver}
-use Rattle.sled_pagecache.specs.Openings.{Ending, Crashed, CrashedIn, CrashedRewriting, HandedOn, Rewritten, Opening, Refused, Lasted}
+use Rattle.sled_pagecache.specs.Openings.{Ending, IsEmpty, IsRun, Crashed, CrashedIn, CrashedRewriting, HandedOn, Rewritten, Opening, Refused, Lasted}
 use Rattle.sled_pagecache.specs.Rows.{IsInState, IsMade}
 use Rattle.sled_pagecache.specs.Served.{IsServed}
 use Rattle.sled_pagecache.specs.State.{State, contents_of}
@@ -137,3 +137,7 @@ module _ {L : Type 0} (g : Ghosts L) where
       × (outs : List Outcome) × (t : State) × AreStepsServed first (opened_state config (pages_by_now h)) calls outs last t
       × HasPagesOf (history_after_calls calls outs (history_after_start h)) t
       × (after : History) × Ends last t (history_after_calls calls outs (history_after_start h)) ending after × ShowPrefixes after openings
+
+  -- Every sequence of openings from an empty log shows such prefixes.
+  abbrev pub EveryOpeningShowsAPrefix : Type 0
+  EveryOpeningShowsAPrefix = (log : L) (openings : List (Opening L)) → IsEmpty g log → IsRun g log openings → ShowPrefixes (history_from []) openings

@@ -1,10 +1,8 @@
 //! What a crash leaves of a batch.
 
-ghost use Rattle.std.specs.Prelude.{◌≡◌, [], ◌∷◌, ◌++◌, ℕ, false, List, Ok, Result};
-ghost use Rattle.sled_base.specs.declared.types.Error.{Error};
-ghost use Rattle.sled_pagecache.specs.Batches.{AreWithout, AreThoseOf, RunsBatch, StandsWhole, StandsInPart, with_pin};
+ghost use Rattle.std.specs.Prelude.{◌≡◌, ℕ, false, List, Ok};
+ghost use Rattle.sled_pagecache.specs.Batches.{AreWithout, AreThoseOf, EachClosed, RunsBatch, StandsWhole, StandsInPart};
 ghost use Rattle.sled_pagecache.specs.Cache.{Cache, Represents};
-ghost use Rattle.sled_pagecache.specs.Calls.{Steps};
 ghost use Rattle.sled_pagecache.specs.Logged.{Logged};
 ghost use Rattle.sled_pagecache.specs.Reopening.{CrashReopens};
 ghost use Rattle.sled_pagecache.specs.Rows.{IsMade};
@@ -28,25 +26,11 @@ pub fn a_batch_stands_whole_or_not_at_all<L: Log>()
         → Represents L.Log old held s
         → s.fault ≡ false
         → CrashReopens L.Log new.log (L.moment old.log) (AreWithout held) }
-    ensures sealed { (old mid new : Cache L) (calls : List (Call × Answer))
-        (result : Result (Unit {0}) Error)
-        → RunsBatch L.Log old calls mid
-        → Steps L.Log mid Seal (Sealed result) new
-        → (held : Logged) (s : State)
-        → Represents L.Log old held s
-        → s.fault ≡ false
-        → StandsWhole L.Log old (with_pin calls ++ (Seal, Sealed result) ∷ []) new held s }
+    ensures sealed { EachClosed L.Log Seal Sealed (StandsWhole L.Log) }
     ensures flushed { (old new : Cache L) (n : ℕ)
         → IsMade L.Log old Flush (Flushed (Ok n)) new
         → (held : Logged) (s : State)
         → Represents L.Log old held s
         → CrashReopens L.Log new.log (L.moment new.log) (AreThoseOf s) }
-    ensures cancelled { (old mid new : Cache L) (calls : List (Call × Answer))
-        (result : Result (Unit {0}) Error)
-        → RunsBatch L.Log old calls mid
-        → Steps L.Log mid Cancel (Cancelled result) new
-        → (held : Logged) (s : State)
-        → Represents L.Log old held s
-        → s.fault ≡ false
-        → StandsInPart L.Log old (with_pin calls ++ (Cancel, Cancelled result) ∷ []) new held s }
+    ensures cancelled { EachClosed L.Log Cancel Cancelled (StandsInPart L.Log) }
 {}

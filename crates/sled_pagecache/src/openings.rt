@@ -1,13 +1,7 @@
 //! Theorems about caches that are opened over one log, one after another.
 
-ghost use Rattle.std.specs.Prelude.{List, []};
-ghost use Rattle.sled_disk.specs.declared.disk.file.FileDisk.{FileDisk};
-ghost use Rattle.sled_disk.specs.declared.disk.memory.MemDisk.{MemDisk};
-ghost use Rattle.sled_disk.specs.declared.disk.staged.StagedDisk.{StagedDisk};
-ghost use Rattle.sled_disk.specs.declared.log.DiskLog.{DiskLog};
-ghost use Rattle.sled_pagecache.specs.Prefixes.{history_from};
-ghost use Rattle.sled_pagecache.specs.Openings.{Opening, IsEmpty, IsRun, KeepIntervals, ids_of, AreRising};
-ghost use Rattle.sled_pagecache.specs.Prefixes.{ShowPrefixes};
+ghost use Rattle.sled_pagecache.specs.Openings.{EveryIdIsNew};
+ghost use Rattle.sled_pagecache.specs.Prefixes.{EveryOpeningShowsAPrefix};
 
 use sled_disk::{CallersFile, Disk, DiskLog, FileDisk, MemDisk, StagedDisk, SystemFile};
 use sled_log::Log;
@@ -30,29 +24,19 @@ use sled_log::Log;
 /// opening fails only because of an allocation, the device, the settings, or a log that has no room for a missing system page. The theorem
 /// assumes nothing else, and holds for any log that tells its bytes.
 pub fn every_opening_shows_a_prefix<L: Log>()
-    ensures { L.tells → (log : L) (openings : List (Opening L)) → IsEmpty L.Log log
-        → IsRun L.Log log openings → ShowPrefixes L.Log (history_from []) openings }
+    ensures { L.tells → EveryOpeningShowsAPrefix L.Log }
 {}
 
 /// Proves the same for a log on a disk in memory, which tells its bytes: whatever is torn, and wherever the disk stops.
 pub fn every_opening_of_a_disk_shows_a_prefix()
-    ensures { (log : DiskLog MemDisk ⟦<MemDisk as Disk>⟧)
-        (openings : List (Opening (DiskLog MemDisk ⟦<MemDisk as Disk>⟧)))
-        → IsEmpty ⟦<DiskLog<MemDisk> as Log>⟧ log
-        → IsRun ⟦<DiskLog<MemDisk> as Log>⟧ log openings
-        → ShowPrefixes ⟦<DiskLog<MemDisk> as Log>⟧ (history_from []) openings }
+    ensures { EveryOpeningShowsAPrefix ⟦<DiskLog<MemDisk> as Log>⟧ }
 {
     every_opening_shows_a_prefix::<DiskLog<MemDisk>>();
 }
 
 /// Proves the same for a log on a file of the system, if the system keeps its word. `SystemFile` defines what that is.
 pub fn every_opening_of_a_file_shows_a_prefix<F: SystemFile>()
-    ensures { F.tells
-        → (log : DiskLog (FileDisk F F.SystemFile) ⟦<FileDisk<F> as Disk>⟧)
-        (openings : List (Opening (DiskLog (FileDisk F F.SystemFile) ⟦<FileDisk<F> as Disk>⟧)))
-        → IsEmpty ⟦<DiskLog<FileDisk<F>> as Log>⟧ log
-        → IsRun ⟦<DiskLog<FileDisk<F>> as Log>⟧ log openings
-        → ShowPrefixes ⟦<DiskLog<FileDisk<F>> as Log>⟧ (history_from []) openings }
+    ensures { F.tells → EveryOpeningShowsAPrefix ⟦<DiskLog<FileDisk<F>> as Log>⟧ }
 {
     every_opening_shows_a_prefix::<DiskLog<FileDisk<F>>>();
 }
@@ -60,12 +44,7 @@ pub fn every_opening_of_a_file_shows_a_prefix<F: SystemFile>()
 /// Proves the same for a log whose caller reads and writes its file (`StagedDisk`), if the caller keeps its word about the file.
 /// `CallersFile` defines what that is. The caller may do the waiting tasks between any two calls, or later, or never.
 pub fn every_opening_of_a_callers_file_shows_a_prefix<F: CallersFile>()
-    ensures { F.tells
-        → (log : DiskLog (StagedDisk F F.CallersFile) ⟦<StagedDisk<F> as Disk>⟧)
-        (openings : List (Opening (DiskLog (StagedDisk F F.CallersFile) ⟦<StagedDisk<F> as Disk>⟧)))
-        → IsEmpty ⟦<DiskLog<StagedDisk<F>> as Log>⟧ log
-        → IsRun ⟦<DiskLog<StagedDisk<F>> as Log>⟧ log openings
-        → ShowPrefixes ⟦<DiskLog<StagedDisk<F>> as Log>⟧ (history_from []) openings }
+    ensures { F.tells → EveryOpeningShowsAPrefix ⟦<DiskLog<StagedDisk<F>> as Log>⟧ }
 {
     every_opening_shows_a_prefix::<DiskLog<StagedDisk<F>>>();
 }
@@ -76,30 +55,19 @@ pub fn every_opening_of_a_callers_file_shows_a_prefix<F: CallersFile>()
 /// This holds from an empty log, over every sequence of openings as above in which no opened cache has a shorter interval of ids than one
 /// before it.
 pub fn ids_are_given_once<L: Log>()
-    ensures { L.tells → (log : L) (openings : List (Opening L)) → IsEmpty L.Log log
-        → IsRun L.Log log openings → KeepIntervals 0 openings → AreRising (ids_of openings) }
+    ensures { L.tells → EveryIdIsNew L.Log }
 {}
 
 /// Proves the same for a log on a file of the system, if the system keeps its word.
 pub fn ids_over_a_file_are_given_once<F: SystemFile>()
-    ensures { F.tells
-        → (log : DiskLog (FileDisk F F.SystemFile) ⟦<FileDisk<F> as Disk>⟧)
-        (openings : List (Opening (DiskLog (FileDisk F F.SystemFile) ⟦<FileDisk<F> as Disk>⟧)))
-        → IsEmpty ⟦<DiskLog<FileDisk<F>> as Log>⟧ log
-        → IsRun ⟦<DiskLog<FileDisk<F>> as Log>⟧ log openings
-        → KeepIntervals 0 openings → AreRising (ids_of openings) }
+    ensures { F.tells → EveryIdIsNew ⟦<DiskLog<FileDisk<F>> as Log>⟧ }
 {
     ids_are_given_once::<DiskLog<FileDisk<F>>>();
 }
 
 /// Proves the same for a log whose caller reads and writes its file, if the caller keeps its word.
 pub fn ids_over_a_callers_file_are_given_once<F: CallersFile>()
-    ensures { F.tells
-        → (log : DiskLog (StagedDisk F F.CallersFile) ⟦<StagedDisk<F> as Disk>⟧)
-        (openings : List (Opening (DiskLog (StagedDisk F F.CallersFile) ⟦<StagedDisk<F> as Disk>⟧)))
-        → IsEmpty ⟦<DiskLog<StagedDisk<F>> as Log>⟧ log
-        → IsRun ⟦<DiskLog<StagedDisk<F>> as Log>⟧ log openings
-        → KeepIntervals 0 openings → AreRising (ids_of openings) }
+    ensures { F.tells → EveryIdIsNew ⟦<DiskLog<StagedDisk<F>> as Log>⟧ }
 {
     ids_are_given_once::<DiskLog<StagedDisk<F>>>();
 }

@@ -1,5 +1,5 @@
 -- A link that was made, or refused, once what the list dropped for it is paged out: what it answers.
-use Rattle.sled_pagecache.proofs.Names.{inl, link_answer, link_behind, lost_by, no_name, HasNoName, KeepsMemory, ReadsNothing, IfOk, IfErr, OnOk, OnErr, stamp_of, slice_get, subst, IsFresh, ◌≡◌, ◌+◌, ℕ, Bool, List, nat_lt, Some, Result, Ok, Err, slice_set, refl, sym, ◌∙◌, ap, error_of, Refusal, Ghosts, Cache, IsResident, IsAway, IsBounded, AccessesPage, EvictsAtMost, MeetsDamage, ReportsDamage, ReadsPage, Keeps, Acts, IsBlamed, TestsFirst, stamps_after_swap, Swapped, is_free, chain_length, linked_length, IsAnswered, Token, token, Linked, Config, StickyLog, Accesses, Page, NodeLink, Rejection, IsWhole, Evicts, IsSettled, behind-own, view, writer}
+use Rattle.sled_pagecache.proofs.Names.{inl, link_answer, link_behind, lost_by, no_name, IfOk, subst, IsFresh, ◌≡◌, ◌+◌, ℕ, Bool, List, nat_lt, Some, Result, Ok, Err, slice_set, refl, sym, ◌∙◌, ap, error_of, Refusal, Ghosts, Cache, Swapped, is_free, chain_length, Token, token, Config, StickyLog, Accesses, Page, NodeLink, Rejection, IsWhole, Evicts, IsSettled, behind-own, view, writer}
 use Rattle.sled_pagecache.proofs.Steps.KeptStamps.{keeps-err}
 use Rattle.sled_pagecache.proofs.Steps.CacheSteps.{steps-known}
 use Rattle.sled_pagecache.proofs.Ids.DurableCounter.{spares-other, behind-counter, other-at, spares-link, whole-then}
@@ -13,28 +13,13 @@ use Rattle.sled_pagecache.proofs.Links.LinkTests.{refused-tests, taken-tests, re
 use Rattle.sled_pagecache.proofs.Memory.PageIn.{length-before, page-own-at, stamps-same, reads-pulled}
 use Rattle.sled_pagecache.proofs.Steps.Puts.{blamed}
 use Rattle.sled_pagecache.specs.Inside.LinkWrites.{PutsLink}
-use Rattle.sled_pagecache.specs.declared.pagecache.handles.call.Call.TheVariants as call
+use Rattle.sled_pagecache.specs.Swaps.{LinksAlone}
 
 -- All that a link promises.
 abbrev pub LinkPromises : {L : Type 0} → Ghosts L → Cache L → ℕ → Token → NodeLink → Cache L → Result (Token × Bool) Rejection → Type 0
-LinkPromises g was pid old link now done = let result = link_answer done link in record {
-  tested : TestsFirst g was old link result;
-  step : Acts g was (call.Link old link) (Linked result) now;
-  blame : IsBlamed g was now result;
-  keeps : Keeps was now result (stamps_after_swap was.stamps);
-  token : IfOk result (IsAnswered was.stamps old link);
-  damaged : MeetsDamage g was pid → slice_get was.stamps pid ≡ Some (stamp_of old) → ReportsDamage g was pid result now;
-  reads : ReadsPage g was pid now;
-  unread : IfOk result (λ swapped. OnErr swapped (ReadsNothing g was now));
-  length : g.tells → IfOk result (λ swapped. OnOk swapped (chain_length g.state now pid ≡ linked_length (chain_length g.state was pid)));
+LinkPromises g was pid old link now done = record {
+  links : LinksAlone g was pid old link (link_answer done link) now;
   joins : g.tells → IfOk done (λ made. made.1 ≡ nat_lt (chain_length g.state was pid) 10);
-  resident : IfOk result (λ swapped. OnOk swapped (IsResident now pid));
-  kept_out : OnErr result (IsAway was pid → IsAway now pid);
-  bounded : IsBounded g now;
-  accesses : IfOk result (λ swapped. OnOk swapped (AccessesPage was pid now));
-  same : IfOk result (λ swapped. OnErr swapped (KeepsMemory was now));
-  leaves : IfErr result (EvictsAtMost was pid now g.tells);
-  unnamed : IfErr result HasNoName;
 }
 
 module _ {L : Type 0} (g : Ghosts L) {next : ℕ} {config : Config} {recovered : Bool} {before after : StickyLog L} {table pages : List Page} {free : List ℕ} {accesses between then : Accesses}
@@ -58,23 +43,27 @@ module _ {L : Type 0} (g : Ghosts L) {next : ℕ} {config : Config} {recovered :
       let named : made ≡ token pid (old.stamp + 1) = is_made ∙ ap (token pid) (done.taken.raised.1 ∙ ap (λ n. n + 1) fresh.stamp) in (
         settled is whole evicts it.bounded,
         record {
-          tested = taken-tests g next config recovered accesses.lru before table free pid kept old q fresh link same after page done.taken _;
-          step = steps-moved behind (rw named (link-taken g next config recovered accesses.lru before table free pid kept fresh.clear old same link fresh.behind q fresh.at fresh.full after page fresh.stamp done.taken done.fault));
-          blame = record { read = λ is. absurd cc; write = λ is. absurd cc };
-          keeps = keeps-moved behind (keeps-fresh next config recovered accesses.lru before table pid old q fresh _ after page done.fault done.taken.tells.went.batch done.taken.raised.1 made named) tt;
-          token = fresh-answered next config recovered accesses.lru before table pid old q fresh same _ link made (named ∙ ap (λ n. token n (old.stamp + 1)) (sym same));
-          damaged = λ meets stamp. absurd (taken-damage g next config recovered accesses.lru before table free pid kept old q fresh link meets after page done.taken);
-          reads = reads-moved behind pid (reads-pulled g next config recovered accesses.lru before after table free pid q page kept fresh.clear fresh.behind fresh.at pulled done.unread done.reads (λ away. tt));
-          unread = tt;
-          length = λ told. taken-length g before after table free pid q page kept fresh.clear fresh.behind fresh.at link next config recovered accesses.lru told done.taken;
+          links = record {
+            step = steps-moved behind (rw named (link-taken g next config recovered accesses.lru before table free pid kept fresh.clear old same link fresh.behind q fresh.at fresh.full after page fresh.stamp done.taken done.fault));
+            left = record {
+              blame = record { read = λ is. absurd cc; write = λ is. absurd cc };
+              keeps = keeps-moved behind (keeps-fresh next config recovered accesses.lru before table pid old q fresh _ after page done.fault done.taken.tells.went.batch done.taken.raised.1 made named) tt;
+              token = fresh-answered next config recovered accesses.lru before table pid old q fresh same _ link made (named ∙ ap (λ n. token n (old.stamp + 1)) (sym same));
+              resident = it.stays.resident ∙ taken-resident g before after table free pid q page kept fresh.clear fresh.behind fresh.at link next config recovered accesses.lru done.taken;
+              accesses = it.accessed;
+              same = tt;
+              leaves = tt;
+              bounded = it.bounded;
+              unnamed = tt;
+            };
+            tested = taken-tests g next config recovered accesses.lru before table free pid kept old q fresh link same after page done.taken _;
+            length = λ told. taken-length g before after table free pid q page kept fresh.clear fresh.behind fresh.at link next config recovered accesses.lru told done.taken;
+            reads = reads-moved behind pid (reads-pulled g next config recovered accesses.lru before after table free pid q page kept fresh.clear fresh.behind fresh.at pulled done.unread done.reads (λ away. tt));
+            unread = tt;
+            kept_out = tt;
+            damaged = λ meets stamp. absurd (taken-damage g next config recovered accesses.lru before table free pid kept old q fresh link meets after page done.taken);
+          };
           joins = λ told. done.joined ∙ ap (λ n. nat_lt n 10) (length-before g next config recovered accesses.lru before after table free pid q page kept fresh.clear fresh.behind fresh.at told);
-          resident = it.stays.resident ∙ taken-resident g before after table free pid q page kept fresh.clear fresh.behind fresh.at link next config recovered accesses.lru done.taken;
-          kept_out = tt;
-          bounded = it.bounded;
-          accesses = it.accessed;
-          same = tt;
-          leaves = tt;
-          unnamed = tt;
         },
       )
   link-ended page made is_made (Err refusal) refused out =
@@ -92,25 +81,29 @@ module _ {L : Type 0} (g : Ghosts L) {next : ℕ} {config : Config} {recovered :
       let stamps = stamps-same g next config recovered accesses.lru before after table free pid q page kept fresh.clear fresh.behind fresh.at refused.stamp in (
         settled is whole evicts it.bounded,
         record {
-          tested = refused-tests g next config recovered accesses.lru before table free pid kept old q fresh link same refusal refused.tested;
-          step = steps-moved behind (steps-known g _ _ (record { config = refl; recovered = refl }) (λ told. link-refused g next config recovered accesses.lru before table free pid kept fresh.clear old same link fresh.behind q fresh.at fresh.full
-              after page fresh.stamp refusal (refused.refused told) refused.cause refused.stamp));
-          blame = blamed-moved behind (blamed g _ _ _ refusal refused.cause);
-          keeps = keeps-moved behind (keeps-err _ _ _ (Unit {0}) refusal fresh.clear refused.cause.fault stamps refused.begun.went.batch) it.stuck;
-          token = tt;
-          damaged = λ meets stamp. damaged-moved behind pid result
-              (refused-damage g next config recovered accesses.lru before table free pid kept old q fresh link meets after page refusal (refused.refused meets.tells) refused.stamp refused.same);
-          reads = reads-moved behind pid
-              (reads-pulled g next config recovered accesses.lru before after table free pid q page kept fresh.clear fresh.behind fresh.at told refused.unread (λ away. tt) (λ away. (refused.kept_out away, refused.at_most.0, refused.at_most.1, refused.at_most.2)));
-          unread = tt;
-          length = λ told. tt;
+          links = record {
+            step = steps-moved behind (steps-known g _ _ (record { config = refl; recovered = refl }) (λ told. link-refused g next config recovered accesses.lru before table free pid kept fresh.clear old same link fresh.behind q fresh.at fresh.full
+                after page fresh.stamp refusal (refused.refused told) refused.cause refused.stamp));
+            left = record {
+              blame = blamed-moved behind (blamed g _ _ _ refusal refused.cause);
+              keeps = keeps-moved behind (keeps-err _ _ _ (Unit {0}) refusal fresh.clear refused.cause.fault stamps refused.begun.went.batch) it.stuck;
+              token = tt;
+              resident = tt;
+              accesses = tt;
+              same = tt;
+              leaves = it.leaves;
+              bounded = it.bounded;
+              unnamed = no_name refusal;
+            };
+            tested = refused-tests g next config recovered accesses.lru before table free pid kept old q fresh link same refusal refused.tested;
+            length = λ told. tt;
+            reads = reads-moved behind pid
+                (reads-pulled g next config recovered accesses.lru before after table free pid q page kept fresh.clear fresh.behind fresh.at told refused.unread (λ away. tt) (λ away. (refused.kept_out away, refused.at_most.0, refused.at_most.1, refused.at_most.2)));
+            unread = tt;
+            kept_out = λ away. behind.out.away pid (refused-out g before after table free pid q page kept fresh.clear fresh.behind fresh.at link next config recovered accesses.lru refused.kept_out away);
+            damaged = λ meets stamp. damaged-moved behind pid result
+                (refused-damage g next config recovered accesses.lru before table free pid kept old q fresh link meets after page refusal (refused.refused meets.tells) refused.stamp refused.same);
+          };
           joins = λ told. tt;
-          resident = tt;
-          kept_out = λ away. behind.out.away pid (refused-out g before after table free pid q page kept fresh.clear fresh.behind fresh.at link next config recovered accesses.lru refused.kept_out away);
-          bounded = it.bounded;
-          accesses = tt;
-          same = tt;
-          leaves = it.leaves;
-          unnamed = no_name refusal;
         },
       )

@@ -1,5 +1,5 @@
 -- What follows from an append to one page that was made, or refused, once what the list dropped for it is paged out.
-use Rattle.sled_pagecache.proofs.Names.{answered, inl, lost_by, answer_behind, content_of, no_name, HasNoName, KeepsMemory, ReadsNothing, IfOk, IfErr, OnOk, IsFresh, ◌≡◌, ◌≤◌, ◌+◌, ℕ, Bool, true, false, List, [], ◌∷◌, Some, None, Result, Ok, Err, slice_get, slice_set, refl, sym, ◌∙◌, ap, subst, arith, slice_get_within, error_of, Error, Refusal, Change, message_of, begun_by, Put, Update, Ghosts, Cache, IsResident, HasNoNode, HasNoRoom, chain_length, IsBounded, AccessesPage, EvictsAtMost, MakesAppend, RefusesAppend, OnErr, Keeps, Acts, IsBlamed, stamps_after_swap, Swapped, SwapsContent, stamps_in, is_resident, free_ids, IsFreeOrNode, IsAnswered, Token, token, Answer, Call, Config, StickyLog, Accesses, Page, PageContent, IsWhole, Evicts, IsSettled, behind-own, put-back, view, writer}
+use Rattle.sled_pagecache.proofs.Names.{WholeNode, Replace, Replaced, answered, inl, lost_by, answer_behind, content_of, no_name, HasNoName, KeepsMemory, ReadsNothing, IfOk, IfErr, OnOk, IsFresh, ◌≡◌, ◌≤◌, ◌+◌, ℕ, Bool, true, false, List, [], ◌∷◌, Some, None, Result, Ok, Err, slice_get, slice_set, refl, sym, ◌∙◌, ap, subst, arith, slice_get_within, error_of, Error, Refusal, Change, message_of, begun_by, Put, Update, Ghosts, Cache, IsResident, HasNoNode, HasNoRoom, chain_length, IsBounded, AccessesPage, EvictsAtMost, MakesAppend, RefusesAppend, OnErr, Keeps, Acts, IsBlamed, stamps_after_swap, Swapped, SwapsContent, stamps_in, is_resident, free_ids, IsFreeOrNode, IsAnswered, Token, token, Answer, Call, Config, StickyLog, Accesses, Page, PageContent, IsWhole, Evicts, IsSettled, behind-own, put-back, view, writer}
 use Rattle.sled_pagecache.proofs.Steps.KeptStamps.{keeps-err}
 use Rattle.sled_pagecache.proofs.Steps.CacheSteps.{steps-known}
 use Rattle.sled_pagecache.proofs.Ids.DurableCounter.{spares-other, behind-counter, other-at, spares-refused, whole-then}
@@ -8,6 +8,7 @@ use Rattle.sled_pagecache.proofs.Memory.SettledCaches.{Settles, blamed-moved, ke
 use Rattle.sled_pagecache.proofs.Memory.ResidentPages.{loses-none, stay-view, takes-page}
 use Rattle.sled_pagecache.proofs.Steps.TokenCheck.{IsSwap, Unswapped, fresh-answered, handed-back, keeps-fresh, unless-made}
 use Rattle.sled_pagecache.specs.Inside.Appends.{Puts}
+use Rattle.sled_pagecache.specs.Swaps.{PutsAlone}
 use Rattle.sled_pagecache.proofs.CacheLog.ProperPages.{IsPut}
 use Rattle.sled_pagecache.proofs.Steps.Puts.{blamed}
 use Rattle.sled_pagecache.proofs.Steps.Replacements.{swaps-refused, swaps-done}
@@ -120,6 +121,16 @@ SwapPromises g was pid old given call answered LiesThere now result = record {
   same : IfOk result (λ swapped. OnErr swapped (KeepsMemory was now));
   leaves : IfErr result (EvictsAtMost was pid now g.tells);
   unnamed : IfErr result HasNoName;
+}
+
+-- which is what putting a node promises, where the page's node is in memory then
+pub puts-alone : {L : Type 0} (g : Ghosts L) (was now : Cache L) (pid : ℕ) (old : Token) (node : WholeNode) (result : Swapped WholeNode) → SwapPromises g was pid old node (Replace old node) Replaced (λ cache. IsResident cache pid) now result
+    → PutsAlone g was pid old node result now
+puts-alone g was now pid old node result all = record {
+  step = all.step;
+  left = record { blame = all.blame; keeps = all.keeps; token = all.token; resident = all.resident; accesses = all.accesses; same = all.same; leaves = all.leaves; bounded = all.bounded; unnamed = all.unnamed };
+  length = all.length;
+  unread = all.unread;
 }
 
 -- whether it was written or refused

@@ -1,13 +1,12 @@
 -- A swap, and the move that is added to it, as one step.
-use Rattle.sled_pagecache.proofs.Names.{IsAway, Acts, Some, slice_get, OnErr, Linked, nat_lt, true, false≢true, MatchBool, NodeLink, chain_length, IsBounded, ReadsNothing, length, ℕ, IfOk, OnOk, WholeNode, ActOver, Replaced, Replace, ◌≡◌, ◌∙◌, ◌++◌, Bool, false, Result, Ok, refl, subst, Error, Ghosts, Cache, State, Outcome, outcome, Token, Swapped, Swaps, Content, Steps, IsDoneInEach, IsBehind, HasNoRoomAgain, due_in, Tidies, TidiesBehind, TidiesIfSwapped, Err, AttemptGc, AttemptedGc, arith, sym}
+use Rattle.sled_pagecache.proofs.Names.{IfErr, Linked, nat_lt, true, false≢true, MatchBool, NodeLink, chain_length, ℕ, IfOk, OnOk, WholeNode, ActOver, Replaced, Replace, ◌≡◌, ◌∙◌, ◌++◌, Bool, false, Result, Ok, refl, subst, Error, Ghosts, Cache, State, Outcome, outcome, Token, Swapped, Swaps, Content, Steps, IsDoneInEach, IsBehind, HasNoRoomAgain, due_in, Tidies, TidiesBehind, TidiesIfSwapped, Err, AttemptGc, AttemptedGc, arith, sym}
 use Rattle.sled_pagecache.specs.Inside.SequenceLaws.{done-then}
-use Rattle.sled_pagecache.specs.Answers.{KeepsSwap, UnlessMade, linked_length}
+use Rattle.sled_pagecache.specs.Answers.{HasNoName, KeepsSwap, UnlessMade}
 use Rattle.sled_pagecache.specs.Calls.{IsBlamed}
 use Rattle.sled_pagecache.specs.Moves.{AttemptsMove}
-use Rattle.sled_pagecache.specs.Damage.{MeetsDamage, ReportsDamage}
 use Rattle.sled_pagecache.specs.Limits.{most_messages}
-use Rattle.sled_pagecache.specs.Memory.{ReadsPage}
-use Rattle.sled_pagecache.specs.Swaps.{JoinsOrMoves, Leaves, LeavesMemory, MovesBehind, PutsAndMoves}
+use Rattle.sled_pagecache.specs.State.{IsAnswered}
+use Rattle.sled_pagecache.specs.Swaps.{JoinsOrMoves, MovesBehind, PutsAndMoves, SwapLeaves}
 use Rattle.sled_pagecache.specs.declared.pagecache.handles.call.Call.TheVariants as call
 
 module _ {L : Type 0} (g : Ghosts L) (old mid new : Cache L) {One Both : State → Outcome → Type 0} (swapped : IsDoneInEach g One old mid) (moved : Result Bool Error) (move : Steps g mid AttemptGc (AttemptedGc moved) new) where
@@ -82,13 +81,13 @@ module _ {L : Type 0} (g : Ghosts L) (cache : Cache L) (s : State) (old made : T
 -- ---- what a swap by itself promises is a step, with the move behind it
 
 module _ {L : Type 0} (g : Ghosts L) (old new : Cache L) (pid : ℕ) (token : Token) where
-  pub puts-step : (node : WholeNode) (answer : Swapped WholeNode) → PutsAndMoves g old pid token node answer new → Steps g old (Replace token node) (Replaced answer) new
+  puts-step : (node : WholeNode) (answer : Swapped WholeNode) → PutsAndMoves g old pid token node answer new → Steps g old (Replace token node) (Replaced answer) new
   puts-step node answer puts =
-      moves-so g old puts.swap new answer puts.act puts.moves
+      moves-so g old puts.swap new answer puts.puts.step puts.moves
       (λ made is s out act. swap-puts g old s token made out node (subst (λ a. ActOver g old s (Replace token node) (Replaced a) out) is act))
       (λ told s first out act moved. (first, act, moved))
 
-  pub joins-step : (link : NodeLink) (answer : Swapped NodeLink) → token.pid ≡ pid → JoinsOrMoves g old pid token link answer new → Steps g old (call.Link token link) (Linked answer) new
+  joins-step : (link : NodeLink) (answer : Swapped NodeLink) → token.pid ≡ pid → JoinsOrMoves g old pid token link answer new → Steps g old (call.Link token link) (Linked answer) new
   joins-step link answer at links = by links.joins refl links.moves
     where
       test : Bool
@@ -98,41 +97,12 @@ module _ {L : Type 0} (g : Ghosts L) (old new : Cache L) (pid : ℕ) (token : To
       joined told made is = rw at (subst (λ a. IfOk a (λ swapped. OnOk swapped (links.joins ≡ nat_lt (chain_length g.state old pid) most_messages))) is (links.joined told))
 
       by : (joins : Bool) → links.joins ≡ joins → MatchBool joins (new ≡ links.swap) (MovesBehind g links.swap answer new) → Steps g old (call.Link token link) (Linked answer) new
-      by true is same = rw same (done-so g old links.swap links.act (λ told s out act.
+      by true is same = rw same (done-so g old links.swap links.links.step (λ told s out act.
           (out, act, by-message g old links.swap links.swap answer test out (λ made so. sym (joined told made so) ∙ is))))
       by false is moves =
-          moves-so g old links.swap new answer links.act moves
+          moves-so g old links.swap new answer links.links.step moves
           (λ made so s out act. swap-links g old s token made out link (subst (λ a. ActOver g old s (call.Link token link) (Linked a) out) so act))
           (λ told s first out act moved. (first, act, by-node g old links.swap new answer test first out (λ made so. sym (joined told made so) ∙ is) moved))
-
--- ---- what both promise, where the swap by itself promised this
-
-module _ {L : Type 0} (g : Ghosts L) (old swap new : Cache L) (pid : ℕ) (token : Token) where
-  pub puts-moves : (node : WholeNode) (result answer : Swapped WholeNode) → result ≡ answer → Acts g old (Replace token node) (Replaced result) swap → Leaves g old result swap → LeavesMemory g old pid result swap
-      → (g.tells → IfOk result (λ swapped. OnOk swapped (chain_length g.state swap pid ≡ 1))) → ReadsNothing g old swap → MovesBehind g swap answer new → IsBounded g new → PutsAndMoves g old pid token node answer new
-  puts-moves node result answer is act left memory length unread moves bounded = subst (λ a. MovesBehind g swap a new → PutsAndMoves g old pid token node a new) is
-      (λ moves. record { swap = swap; act = act; left = left; memory = memory; length = length; unread = unread; moves = moves; bounded = bounded }) moves
-
-  pub joins-moves : (link : NodeLink) (answer : Swapped NodeLink) → Acts g old (call.Link token link) (Linked answer) swap → Leaves g old answer swap → LeavesMemory g old pid answer swap
-      → OnErr answer (IsAway old pid → IsAway swap pid) → (MeetsDamage g old pid → slice_get old.stamps pid ≡ Some token.stamp → ReportsDamage g old pid answer swap)
-      → (g.tells → IfOk answer (λ swapped. OnOk swapped (chain_length g.state swap pid ≡ linked_length (chain_length g.state old pid)))) → ReadsPage g old pid swap → IfOk answer (λ swapped. OnErr swapped (ReadsNothing g old swap))
-      → (joins : Bool) → (g.tells → IfOk answer (λ swapped. OnOk swapped (joins ≡ nat_lt (chain_length g.state old pid) most_messages)))
-      → MatchBool joins (new ≡ swap) (MovesBehind g swap answer new) → IsBounded g new → JoinsOrMoves g old pid token link answer new
-  joins-moves link answer act left memory kept_out damaged length reads unread joins joined moves bounded = record {
-    swap = swap;
-    act = act;
-    left = left;
-    memory = memory;
-    kept_out = kept_out;
-    damaged = damaged;
-    length = length;
-    reads = reads;
-    unread = unread;
-    joins = joins;
-    joined = joined;
-    moves = moves;
-    bounded = bounded;
-  }
 
 -- ---- what both leave of the stamps, the batch and the fault
 
@@ -141,8 +111,8 @@ module _ {L : Type 0} (g : Ghosts L) (swap new : Cache L) where
   still (Ok named) move = move.keeps.done
   still (Err e) move = move.keeps.refused
 
-module _ {L : Type 0} (g : Ghosts L) (old swap new : Cache L) {R : Type 0} where
-  keeps-alone : (answer : Swapped R) → Leaves g old answer swap → KeepsSwap old swap answer
+module _ {L : Type 0} (g : Ghosts L) (old swap new : Cache L) {pid : ℕ} {token : Token} {R : Type 0} {given : R} where
+  keeps-alone : (answer : Swapped R) → SwapLeaves g old pid token given answer swap → KeepsSwap old swap answer
   keeps-alone answer left = record { batch = left.keeps.batch; fault = by answer left.keeps.fault; stuck = left.keeps.stuck; done = left.keeps.done; refused = left.keeps.refused }
     where
       by : (a : Swapped R) {holds : Type 0} → holds → UnlessMade a holds
@@ -150,7 +120,7 @@ module _ {L : Type 0} (g : Ghosts L) (old swap new : Cache L) {R : Type 0} where
       by (Ok (Err back)) h = h
       by (Err e) h = h
 
-  keeps-moved : (answer : Swapped R) → Leaves g old answer swap → MovesBehind g swap answer new → KeepsSwap old new answer
+  keeps-moved : (answer : Swapped R) → SwapLeaves g old pid token given answer swap → MovesBehind g swap answer new → KeepsSwap old new answer
   keeps-moved (Ok (Ok made)) left moves = record {
     batch = moves.1.keeps.batch ∙ left.keeps.batch;
     fault = tt;
@@ -161,28 +131,49 @@ module _ {L : Type 0} (g : Ghosts L) (old swap new : Cache L) {R : Type 0} where
   keeps-moved (Ok (Err back)) left moves = rw moves (keeps-alone (Ok (Err back)) left)
   keeps-moved (Err e) left moves = rw moves (keeps-alone (Err e) left)
 
-  blame-moved : (answer : Swapped R) → Leaves g old answer swap → MovesBehind g swap answer new → IsBlamed g old new answer
+  blame-moved : (answer : Swapped R) → SwapLeaves g old pid token given answer swap → MovesBehind g swap answer new → IsBlamed g old new answer
   blame-moved (Ok (Ok made)) left moves = record { read = λ is. grind arith; write = λ is clear. grind arith }
   blame-moved (Ok (Err back)) left moves = rw moves left.blame
   blame-moved (Err e) left moves = rw moves left.blame
 
-module _ {L : Type 0} (g : Ghosts L) (old new : Cache L) (pid : ℕ) (token : Token) where
-  pub puts-keeps : (node : WholeNode) (answer : Swapped WholeNode) → PutsAndMoves g old pid token node answer new → KeepsSwap old new answer
-  puts-keeps node answer puts = keeps-moved g old puts.swap new answer puts.left puts.moves
+module _ {L : Type 0} (g : Ghosts L) (old new : Cache L) (pid : ℕ) (version : Token) where
+  puts-keeps : (node : WholeNode) (answer : Swapped WholeNode) → PutsAndMoves g old pid version node answer new → KeepsSwap old new answer
+  puts-keeps node answer puts = keeps-moved g old puts.swap new answer puts.puts.left puts.moves
 
-  pub puts-blame : (node : WholeNode) (answer : Swapped WholeNode) → PutsAndMoves g old pid token node answer new → IsBlamed g old new answer
-  puts-blame node answer puts = blame-moved g old puts.swap new answer puts.left puts.moves
+  puts-blame : (node : WholeNode) (answer : Swapped WholeNode) → PutsAndMoves g old pid version node answer new → IsBlamed g old new answer
+  puts-blame node answer puts = blame-moved g old puts.swap new answer puts.puts.left puts.moves
 
-  pub joins-keeps : (link : NodeLink) (answer : Swapped NodeLink) → JoinsOrMoves g old pid token link answer new → KeepsSwap old new answer
+  joins-keeps : (link : NodeLink) (answer : Swapped NodeLink) → JoinsOrMoves g old pid version link answer new → KeepsSwap old new answer
   joins-keeps link answer links = by links.joins links.moves
     where
       by : (joins : Bool) → MatchBool joins (new ≡ links.swap) (MovesBehind g links.swap answer new) → KeepsSwap old new answer
-      by true same = rw same (keeps-alone g old links.swap links.swap answer links.left)
-      by false moves = keeps-moved g old links.swap new answer links.left moves
+      by true same = rw same (keeps-alone g old links.swap links.swap answer links.links.left)
+      by false moves = keeps-moved g old links.swap new answer links.links.left moves
 
-  pub joins-blame : (link : NodeLink) (answer : Swapped NodeLink) → JoinsOrMoves g old pid token link answer new → IsBlamed g old new answer
+  joins-blame : (link : NodeLink) (answer : Swapped NodeLink) → JoinsOrMoves g old pid version link answer new → IsBlamed g old new answer
   joins-blame link answer links = by links.joins links.moves
     where
       by : (joins : Bool) → MatchBool joins (new ≡ links.swap) (MovesBehind g links.swap answer new) → IsBlamed g old new answer
-      by true same = rw same links.left.blame
-      by false moves = blame-moved g old links.swap new answer links.left moves
+      by true same = rw same links.links.left.blame
+      by false moves = blame-moved g old links.swap new answer links.links.left moves
+
+  -- all that both promise
+  pub puts-promises : (node : WholeNode) (answer : Swapped WholeNode) → PutsAndMoves g old pid version node answer new → record {
+    step : Steps g old (Replace version node) (Replaced answer) new;
+    blame : IsBlamed g old new answer;
+    keeps : KeepsSwap old new answer;
+    token : IfOk answer (IsAnswered old.stamps version node);
+    swap : PutsAndMoves g old pid version node answer new;
+    unnamed : IfErr answer HasNoName;
+  }
+  puts-promises node answer puts = record { step = puts-step g old new pid version node answer puts; blame = puts-blame node answer puts; keeps = puts-keeps node answer puts; token = puts.puts.left.token; swap = puts; unnamed = puts.puts.left.unnamed }
+
+  pub joins-promises : (link : NodeLink) (answer : Swapped NodeLink) → version.pid ≡ pid → JoinsOrMoves g old pid version link answer new → record {
+    step : Steps g old (call.Link version link) (Linked answer) new;
+    blame : IsBlamed g old new answer;
+    keeps : KeepsSwap old new answer;
+    token : IfOk answer (IsAnswered old.stamps version link);
+    swap : JoinsOrMoves g old pid version link answer new;
+    unnamed : IfErr answer HasNoName;
+  }
+  joins-promises link answer at links = record { step = joins-step g old new pid version link answer at links; blame = joins-blame link answer links; keeps = joins-keeps link answer links; token = links.links.left.token; swap = links; unnamed = links.links.left.unnamed }

@@ -10,7 +10,6 @@ ghost use Rattle.sled_log.specs.LogState.{now};
 ghost use Rattle.sled_pagecache.specs.Answers.{HasNoName, Keeps, KeepsSwap, stamps_with, stamps_after_swap};
 ghost use Rattle.sled_pagecache.specs.Cache.{IsResident, IsAway, chain_length};
 ghost use Rattle.sled_pagecache.specs.Calls.{Steps, IsBlamed};
-ghost use Rattle.sled_pagecache.specs.Answers.{TestsFirst};
 ghost use Rattle.sled_pagecache.specs.Lending.{IsGot, AfterLoan};
 ghost use Rattle.sled_pagecache.specs.Memory.{HasNode, HasNoNode, IsBounded, KeepsMemory, AccessesPage, EvictsAtMost, LeavesNodes};
 ghost use Rattle.sled_pagecache.specs.Inside.RecentUse.{FindsPage};
@@ -109,7 +108,6 @@ impl<L: Log> PageCache<L> {
         link: Link,
     ) -> Result<Result<PageView, Option<(PageView, Link)>>, Error>
         requires { pid_of old ≡ pid }
-        ensures tested { TestsFirst L.Log self.old old link result }
         ensures step { Steps L.Log self.old (call.Link old link) (Linked result) self.new }
         ensures blame { IsBlamed L.Log self.old self.new result }
         ensures keeps { KeepsSwap self.old self.new result }

@@ -16,23 +16,27 @@ returns-in_err-judge g c =
     let answer = answer_to rejection c.args.link.now in
     let kept = unswapped g.L.Log _ _ _ _ _ _ c.self.invariant.whole.consistent.beside (g.met.L.Log.only_now _) c.args.old c.args.pid c.requires c.args.link.now (call.Link c.args.old c.args.link.now) Linked _ (link-swap g.L.Log _ c.args.old c.args.link.now) rejection judged answer refl in
     rw (refused-is c.from_residual.result _ c.from_residual.ensures.1, ← c.self.view_is) (record {
-      tested = judged-tests g.L.Log _ _ _ _ _ _ _ _ c.self.invariant.whole.consistent c.args.old c.requires rejection judged c.args.link.now _;
-      step = kept.step;
-      blame = kept.blame;
-      keeps = kept.keeps;
-      token = kept.token;
-      damaged = λ meets stamp. absurd (judged-undamaged g.L.Log _ _ _ _ _ _ _ _ c.self.invariant.whole.consistent c.args.old rejection judged meets stamp);
-      reads = search rules;
-      unread = handed-back _ answer refl;
-      length = λ told. unless-made _ answer kept.unmade;
+      links = record {
+        step = kept.step;
+        left = record {
+          blame = kept.blame;
+          keeps = kept.keeps;
+          token = kept.token;
+          resident = unless-made _ answer kept.unmade;
+          accesses = unless-made _ answer kept.unmade;
+          same = handed-back _ answer (keeps-same _);
+          leaves = kept.leaves;
+          bounded = c.self.invariant.bounded;
+          unnamed = kept.unnamed;
+        };
+        tested = judged-tests g.L.Log _ _ _ _ _ _ _ _ c.self.invariant.whole.consistent c.args.old c.requires rejection judged c.args.link.now _;
+        length = λ told. unless-made _ answer kept.unmade;
+        reads = search rules;
+        unread = handed-back _ answer refl;
+        kept_out = on-err _ answer (λ away. away);
+        damaged = λ meets stamp. absurd (judged-undamaged g.L.Log _ _ _ _ _ _ _ _ c.self.invariant.whole.consistent c.args.old rejection judged meets stamp);
+      };
       joins = λ told. tt;
-      kept_out = on-err _ answer (λ away. away);
-      resident = unless-made _ answer kept.unmade;
-      bounded = c.self.invariant.bounded;
-      accesses = unless-made _ answer kept.unmade;
-      same = handed-back _ answer (keeps-same _);
-      leaves = kept.leaves;
-      unnamed = kept.unnamed;
     })
 
 pub get_mut-page-requires : goal.get_mut-page-requires
