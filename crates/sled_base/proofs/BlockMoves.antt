@@ -9,9 +9,16 @@ use Rattle.sled_base.proofs.StringEdits.{take_less}
 abbrev pub over : Bytes → ℕ → ℕ → ℕ → Bytes
 over bytes from to n = take to bytes ++ (take n (drop from bytes) ++ drop (to + n) bytes)
 
+-- the bytes whose run from `at` to `end` has moved up, or whose run that comes from `start` to `at` has moved down
+abbrev pub raised : Bytes → ℕ → ℕ → ℕ → Bytes
+raised bytes more at end = take (at + more) bytes ++ (take (end - at) (drop at bytes) ++ drop (end + more) bytes)
+
+abbrev pub lowered : Bytes → ℕ → ℕ → ℕ → Bytes
+lowered bytes less start at = take start bytes ++ (take (at - start) (drop (start + less) bytes) ++ drop at bytes)
+
 module _ (old now : Bytes) where
   -- a run that moved up, and then the block before it
-  module _ (at end more n : ℕ) (fits : n ≤ at) (order : at ≤ end) (within : end + more ≤ length old) (is : now ≡ take (at + more) old ++ (take (end - at) (drop at old) ++ drop (end + more) old)) where
+  module _ (at end more n : ℕ) (fits : n ≤ at) (order : at ≤ end) (within : end + more ≤ length old) (is : now ≡ raised old more at end) where
     abbrev start : ℕ
     start = at - n
 
@@ -27,7 +34,7 @@ module _ (old now : Bytes) where
     run : (xs : Bytes) → take n (drop start xs) ≡ drop start (take at xs)
     run xs = let sum : at ≡ start + n = omega (arith, fits) in sym (ap (λ k. drop start (take k xs)) sum ∙ drop-take start n xs)
 
-    pub raised_more : over now start (start + more) n ≡ take (start + more) old ++ (take (end - start) (drop start old) ++ drop (end + more) old)
+    pub raised_more : over now start (start + more) n ≡ raised old more start end
     raised_more =
         let one : take (start + more) now ≡ take (start + more) old = front (start + more) (omega (arith, fits)) in
         let block : take n (drop start now) ≡ take n (drop start old) = run now ∙ ap (drop start) (front at (omega arith)) ∙ sym (run old) in
@@ -39,7 +46,7 @@ module _ (old now : Bytes) where
         (λ i. one i ++ (block i ++ rest i)) ∙ ap (λ xs. take (start + more) old ++ xs) (sym (append_assoc (take n (drop start old)) (take (end - at) (drop at old)) (drop (end + more) old)) ∙ ap (λ xs. xs ++ drop (end + more) old) (sym both))
 
   -- a run that moved down, and then the block behind it
-  module _ (start at less n : ℕ) (order : start ≤ at) (within : at + n + less ≤ length old) (is : now ≡ take start old ++ (take (at - start) (drop (start + less) old) ++ drop at old)) where
+  module _ (start at less n : ℕ) (order : start ≤ at) (within : at + n + less ≤ length old) (is : now ≡ lowered old less start at) where
     run_many : length (take (at - start) (drop (start + less) old)) ≡ at - start
     run_many = length-take-le (at - start) (drop (start + less) old) (omega (arith, order, within, length-drop (start + less) old))
 
@@ -61,7 +68,7 @@ module _ (old now : Bytes) where
     later : (k : ℕ) → drop (at + k) now ≡ drop (at + k) old
     later k = sym (drop-drop k at now) ∙ ap (drop k) rest ∙ drop-drop k at old
 
-    pub lowered_more : over now (at + less) at n ≡ take start old ++ (take (at + n - start) (drop (start + less) old) ++ drop (at + n) old)
+    pub lowered_more : over now (at + less) at n ≡ lowered old less start (at + n)
     lowered_more =
         let next : drop (at - start) (drop (start + less) old) ≡ drop (at + less) old = drop-drop (at - start) (start + less) old ∙ ap (λ k. drop k old) (let sum : start + less + (at - start) ≡ at + less = omega (arith, order) in sum) in
         let total : at + n - start ≡ at - start + n = omega (arith, order) in
@@ -70,18 +77,43 @@ module _ (old now : Bytes) where
         (λ i. moved i ++ (take n (later less i) ++ later n i)) ∙ append_assoc (take start old) (take (at - start) (drop (start + less) old)) tail ∙ ap (λ xs. take start old ++ xs) (sym (append_assoc (take (at - start) (drop (start + less) old)) (take n (drop (at + less) old)) (drop (at + n) old)) ∙ ap (λ xs. xs ++ drop (at + n) old) (sym both))
 
 -- the same, by where the run begins or ends then
-pub raised_on : (old now : Bytes) (at end more next : ℕ) → next ≤ at → at ≤ end → end + more ≤ length old → now ≡ take (at + more) old ++ (take (end - at) (drop at old) ++ drop (end + more) old)
-    → take (next + more) now ++ (take (at - next) (drop next now) ++ drop (at + more) now) ≡ take (next + more) old ++ (take (end - next) (drop next old) ++ drop (end + more) old)
+pub raised_on : (old now : Bytes) (at end more next : ℕ) → next ≤ at → at ≤ end → end + more ≤ length old → now ≡ raised old more at end → raised now more next at ≡ raised old more next end
 raised_on old now at end more next fits order within is =
     let n = at - next in
     let start : next ≡ at - n = omega (arith, fits) in
     let stop : at + more ≡ at - n + more + n = omega (arith, fits) in
     let small : n ≤ at = omega arith in
-    (λ i. take (start i + more) now ++ (take n (drop (start i) now) ++ drop (stop i) now)) ∙ raised_more old now at end more n small order within is ∙ (λ i. take (sym start i + more) old ++ (take (end - sym start i) (drop (sym start i) old) ++ drop (end + more) old))
+    (λ i. take (start i + more) now ++ (take n (drop (start i) now) ++ drop (stop i) now)) ∙ raised_more old now at end more n small order within is ∙ (λ i. raised old more (sym start i) end)
 
-pub lowered_on : (old now : Bytes) (start at less next : ℕ) → start ≤ at → at ≤ next → next + less ≤ length old → now ≡ take start old ++ (take (at - start) (drop (start + less) old) ++ drop at old)
-    → take at now ++ (take (next - at) (drop (at + less) now) ++ drop next now) ≡ take start old ++ (take (next - start) (drop (start + less) old) ++ drop next old)
+pub lowered_on : (old now : Bytes) (start at less next : ℕ) → start ≤ at → at ≤ next → next + less ≤ length old → now ≡ lowered old less start at → lowered now less at next ≡ lowered old less start next
 lowered_on old now start at less next order fits within is =
     let n = next - at in
     let stop : next ≡ at + n = omega (arith, fits) in
-    (λ i. take at now ++ (take n (drop (at + less) now) ++ drop (stop i) now)) ∙ lowered_more old now start at less n order (omega (arith, stop, within)) is ∙ (λ i. take start old ++ (take (sym stop i - start) (drop (start + less) old) ++ drop (sym stop i) old))
+    (λ i. take at now ++ (take n (drop (at + less) now) ++ drop (stop i) now)) ∙ lowered_more old now start at less n order (omega (arith, stop, within)) is ∙ (λ i. lowered old less start (sym stop i))
+
+-- what is left at the front is copied as one run, and then all have moved up
+pub copied_up : (bytes : Bytes) (more end : ℕ) → take more bytes ++ take (end - 0) bytes ++ drop (more + (end - 0)) bytes ≡ raised bytes more 0 end
+copied_up bytes more end =
+    let front : more ≡ 0 + more = omega arith in
+    let back : more + (end - 0) ≡ end + more = omega arith in
+    append_assoc (take more bytes) (take (end - 0) bytes) (drop (more + (end - 0)) bytes) ∙ (λ i. take (front i) bytes ++ (take (end - 0) bytes ++ drop (back i) bytes))
+
+pub all_raised : (bytes : Bytes) (more kept : ℕ) → raised bytes more 0 kept ≡ take more bytes ++ (take kept bytes ++ drop (more + kept) bytes)
+all_raised bytes more kept =
+    let front : 0 + more ≡ more = omega arith in
+    let all : kept - 0 ≡ kept = omega arith in
+    let sum : kept + more ≡ more + kept = omega arith in
+    λ i. take (front i) bytes ++ (take (all i) bytes ++ drop (sum i) bytes)
+
+-- and what is left at the back, and then all have moved down
+pub copied_down : (bytes : Bytes) (less kept at : ℕ) → at ≤ kept → take at bytes ++ take (kept + less - (at + less)) (drop (at + less) bytes) ++ drop (at + (kept + less - (at + less))) bytes ≡ lowered bytes less at kept
+copied_down bytes less kept at le =
+    let many : kept + less - (at + less) ≡ kept - at = omega arith in
+    let stop : at + (kept + less - (at + less)) ≡ kept = omega arith in
+    append_assoc (take at bytes) (take (kept + less - (at + less)) (drop (at + less) bytes)) (drop (at + (kept + less - (at + less))) bytes) ∙ (λ i. take at bytes ++ (take (many i) (drop (at + less) bytes) ++ drop (stop i) bytes))
+
+pub all_lowered : (bytes : Bytes) (less kept : ℕ) → lowered bytes less 0 kept ≡ take kept (drop less bytes) ++ drop kept bytes
+all_lowered bytes less kept =
+    let all : kept - 0 ≡ kept = omega arith in
+    let place : 0 + less ≡ less = omega arith in
+    λ i. take (all i) (drop (place i) bytes) ++ drop kept bytes

@@ -1,22 +1,13 @@
 -- Large blocks, small ones, and the bytes that are left.
-use Rattle.std.proofs.Common.{◌≡◌, ◌+◌, ◌-◌, ◌++◌, take, drop, sym, ◌∙◌, append_assoc, arith}
-use Rattle.sled_base.proofs.BlockMoves.{raised_on}
+use Rattle.std.proofs.Common.{◌∙◌, arith}
+use Rattle.sled_base.proofs.BlockMoves.{raised_on, copied_up, all_raised}
 use Rattle.sled_base.proofs.moves.raise.Goals as goal
 
 pub returns : goal.returns
 returns c =
     let old = c.args.bytes.now in
-    let kept = c.args.kept in
     let more = c.args.more in
-    let one = c.raise_blocks-end.new.bytes in
-    let two = c.raise_blocks-end-2.new.bytes in
-    let end = c.raise_blocks-end.result in
-    let last = c.raise_blocks-end-2.result in
-    let second = c.raise_blocks-end-2.ensures.moved ∙ raised_on old one end kept more last c.raise_blocks-end-2.ensures.left c.raise_blocks-end.ensures.left c.requires c.raise_blocks-end.ensures.moved in
-    let front : more ≡ 0 + more = omega arith in
-    let back : more + (last - 0) ≡ last + more = omega arith in
-    let all : kept - 0 ≡ kept = omega arith in
-    let sum : kept + more ≡ more + kept = omega arith in
-    let copied : c.copy_within.new.self ≡ take more two ++ take (last - 0) two ++ drop (more + (last - 0)) two = c.copy_within.ensures.after in
-    copied ∙ append_assoc (take more two) (take (last - 0) two) (drop (more + (last - 0)) two) ∙ (λ i. take (front i) two ++ (take (last - 0) two ++ drop (back i) two)) ∙ raised_on old two last kept more 0 (omega arith) (omega (arith, c.raise_blocks-end-2.ensures.left, c.raise_blocks-end.ensures.left)) c.requires second ∙
-    (λ i. take (sym front i) old ++ (take (all i) old ++ drop (sum i) old))
+    let large = c.raise_blocks-end in
+    let small = c.raise_blocks-end-2 in
+    let moved = small.ensures.moved ∙ raised_on old large.new.bytes large.result c.args.kept more small.result small.ensures.left large.ensures.left c.requires large.ensures.moved in
+    c.copy_within.ensures.after ∙ copied_up small.new.bytes more small.result ∙ raised_on old small.new.bytes small.result c.args.kept more 0 (omega arith) (omega (arith, small.ensures.left, large.ensures.left)) c.requires moved ∙ all_raised old more c.args.kept
