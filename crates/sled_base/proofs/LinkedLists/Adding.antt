@@ -10,6 +10,7 @@ use Rattle.sled_base.specs.Links.{first_slot_or, first_of, AreLinked, AreFree, t
 use Rattle.sled_base.specs.OptionalSlots.{cell_limit}
 use Rattle.sled_base.specs.declared.dll.Slot.{Slot}
 use Rattle.sled_base.specs.declared.dll.links.Links.{Links}
+use Rattle.sled_base.specs.declared.dll.cell.Link.{Link}
 use Rattle.sled_base.specs.declared.dll.cell.Cell.{Cell}
 use Rattle.sled_base.specs.declared.dll.cell.Cell.TheVariants.{Linked, Free}
 use Rattle.sled_base.proofs.LinkedLists.Standing.{times-append, times-slots_append, one_there}
@@ -37,6 +38,13 @@ module _ (old : Links) (list : List Listed) (spare : List Slot) (slot : Slot) (k
   free_once_set : AreFree (set old.cells.items slot.0 cell) spare
   free_once_set =
       free_kept old.cells.items (set old.cells.items slot.0 cell) spare (keeps_from_set spare old.cells.items slot cell (omega (arith, out_of_both))) kept.unused
+
+-- the cell is set to name its neighbour, and that neighbour, if there is one, to name the cell
+pub named_both : (with : Option Slot → Link → Link) (cell : Option Slot → Cell) (items : List Cell) (slot : Slot) {new : List Cell} {here end next : Option Slot} {put : Cell} → ChangesLink (with here) end (set items slot.0 put) new → here ≡ Some slot → end ≡ next → put ≡ cell end → ChangesLink (with (Some slot)) next (set items slot.0 (cell next)) new
+named_both with cell items slot {new = new} {here = here} {end = end} changes here_is end_is put_is =
+    let set_so = subst (λ x. ChangesLink (with here) end (set items slot.0 x) new) put_is changes in
+    let here_so = subst (λ h. ChangesLink (with h) end (set items slot.0 (cell end)) new) here_is set_so in
+    subst (λ e. ChangesLink (with (Some slot)) e (set items slot.0 (cell e)) new) end_is here_so
 
 -- an item is put in front of the row
 pub linked_at_head : (old new : Links) (list : List Listed) (spare : List Slot) (slot : Slot) (item : ℕ) → IsLinkedListOf (slot ∷ []) old list spare → ChangesLink (with_before (Some slot)) (first_slot_or None list) (set old.cells.items slot.0 (Linked (record { item = item; before = None; after = first_slot_or None list }))) new.cells.items → new.head ≡ Some slot → new.tail ≡ option_or old.tail (Some slot) → new.len ≡ old.len + 1 → new.free ≡ old.free → IsLinkedListOf [] new (listed slot item ∷ list) spare

@@ -1,14 +1,11 @@
-use Rattle.std.proofs.Common.{◌+◌, Option, Some, None, [], ◌∷◌, ◌++◌, ◌∙◌, set, ap, subst, refl, arith}
+use Rattle.std.proofs.Common.{◌+◌, None, [], ◌∙◌, ap, refl, arith}
 use Rattle.std.specs.Option.{option_or}
 use Rattle.std.proofs.lemmas.List.{length-set}
-use Rattle.sled_base.specs.Dll.{listed}
-use Rattle.sled_base.specs.Links.{ChangesLink, with_after, listed_in}
-use Rattle.sled_base.specs.declared.dll.Slot.{Slot}
+use Rattle.sled_base.specs.Links.{with_after, listed_in}
 use Rattle.sled_base.specs.declared.dll.links.Links.{Links}
-use Rattle.sled_base.specs.declared.dll.cell.Cell.{Cell}
 use Rattle.sled_base.specs.declared.dll.cell.Cell.TheVariants.{Linked}
 use Rattle.sled_base.proofs.LinkedLists.Keeping.{lists, out_within, last_within, unmarked}
-use Rattle.sled_base.proofs.LinkedLists.Adding.{linked_at_tail}
+use Rattle.sled_base.proofs.LinkedLists.Adding.{named_both, linked_at_tail}
 use Rattle.sled_base.proofs.dll.links.Links.link_tail.Goals as goal
 
 pub index_mut-requires : goal.index_mut-requires
@@ -27,13 +24,9 @@ some-here-requires c =
 pub returns : goal.returns
 returns c =
     let old = c.args.self.now in
-    let slot = c.args.slot in
-    let item = c.args.item in
+    let here = c.some-here.ensures in
+    let put = c.linked.ensures ∙ ap (λ none. Linked (record { item = c.args.item; before = old.tail; after = none })) c.none.ensures in
+    let changes = named_both with_after (λ end. Linked (record { item = c.args.item; before = end; after = None })) old.cells.items c.args.slot c.set_after.ensures here c.requires.1.tail put in
     let new : Links = record { cells = c.set_after.new.cells; head = c.or-self.result; tail = c.some-here.result; free = old.free; len = old.len + 1 } in
-    let cell : Option Slot → Cell = λ end. Linked (record { item = item; before = end; after = None }) in
-    let Changes : Cell → Option Slot → Option Slot → Type 0 = λ cell here end. ChangesLink (with_after here) end (set old.cells.items slot.0 cell) new.cells.items in
-    let of_cell = subst (λ x. Changes x c.some-here.result old.tail) (c.linked.ensures ∙ ap (λ none. Linked (record { item = item; before = old.tail; after = none })) c.none.ensures) c.set_after.ensures in
-    let of_here = subst (λ here. Changes (cell old.tail) here old.tail) c.some-here.ensures of_cell in
-    let changes = subst (λ end. Changes (cell end) (Some slot) end) c.requires.1.tail of_here in
-    let after = lists [] new (listed_in old ++ listed slot item ∷ []) c.requires.0 (linked_at_tail old new (listed_in old) c.requires.0 slot item c.requires.1 changes c.some-here.ensures (c.or-self.ensures ∙ ap (option_or old.head) c.some-here.ensures) refl refl) in
+    let after = lists [] new _ c.requires.0 (linked_at_tail old new (listed_in old) c.requires.0 c.args.slot c.args.item c.requires.1 changes here (c.or-self.ensures ∙ ap (option_or old.head) here) refl refl) in
     record { kept = after.kept; list = after.is }
