@@ -45,7 +45,11 @@ strings_are strings bytes ends keeps =
     let back = strings_back [] strings 0 refl keeps.can_write in
     subst (λ b. strings_from 0 b ends ≡ strings) keeps.bytes_are (subst (λ e. strings_from 0 (written strings) e ≡ strings) keeps.ends_are back)
 
-pub keeps_own : (strings : List Bytes) (bytes : Bytes) (ends : List ℕ) → Keeps strings bytes ends → Keeps (strings_in bytes ends) bytes ends
+-- the buffer and the ends keep the strings that they hold
+abbrev pub KeepsOwn : Bytes → List ℕ → Type 0
+KeepsOwn bytes ends = Keeps (strings_in bytes ends) bytes ends
+
+pub keeps_own : (strings : List Bytes) (bytes : Bytes) (ends : List ℕ) → Keeps strings bytes ends → KeepsOwn bytes ends
 keeps_own strings bytes ends keeps = subst (λ s. Keeps s bytes ends) (sym (strings_are strings bytes ends keeps)) keeps
 
 -- ---- how many

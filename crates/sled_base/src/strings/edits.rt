@@ -3,7 +3,8 @@
 ghost use Rattle.std.specs.Prelude.{◌≡◌, ◌+◌, ◌-◌, ◌<◌, ◌≤◌, ◌^◌, [], ◌∷◌, ◌++◌, length, map, take, drop, OnOk, OnErr};
 ghost use Rattle.std.specs.List.{AllByRecursion};
 ghost use Rattle.sled_base.specs.Payloads.ByteStrings.{written_bytes};
-ghost use Rattle.sled_base.specs.Strings.{strings_in, Keeps};
+ghost use Rattle.sled_base.specs.Strings.{strings_in, Keeps, with_at, without_at};
+ghost use Rattle.sled_base.specs.StringLaws.{KeepsOwn};
 
 use super::begin_at;
 use crate::moves::{move_down, move_up};
@@ -26,13 +27,12 @@ pub(super) fn insert(
     place: usize,
     string: &[u8],
 ) -> Result<(), AllocError>
-    requires keeps { Keeps (strings_in bytes.old.items ends.old.items) bytes.old.items
-        ends.old.items }
+    requires keeps { KeepsOwn bytes.old.items ends.old.items }
     requires within { place ≤ length ends.old.items }
     requires short { length string.now < 2 ^ 32 }
-    ensures ok { OnOk result (Keeps (take place (strings_in bytes.old.items ends.old.items)
-        ++ string.now ∷ drop place (strings_in bytes.old.items ends.old.items)) bytes.new.items
-        ends.new.items) }
+    ensures ok { OnOk result
+        (Keeps (with_at place string.now (strings_in bytes.old.items ends.old.items))
+        bytes.new.items ends.new.items) }
     ensures err { OnErr result
         ((bytes.new.items ≡ bytes.old.items) × (ends.new.items ≡ ends.old.items)) }
 {
@@ -55,8 +55,7 @@ pub(super) fn push(
     ends: &mut Vec<usize>,
     string: &[u8],
 ) -> Result<(), AllocError>
-    requires keeps { Keeps (strings_in bytes.old.items ends.old.items) bytes.old.items
-        ends.old.items }
+    requires keeps { KeepsOwn bytes.old.items ends.old.items }
     requires short { length string.now < 2 ^ 32 }
     ensures ok { OnOk result (Keeps (strings_in bytes.old.items ends.old.items
         ++ string.now ∷ []) bytes.new.items ends.new.items) }
@@ -90,12 +89,10 @@ fn append(bytes: &mut Vec<u8>, string: &[u8]) -> Result<(), AllocError>
 }
 
 pub(super) fn remove(bytes: &mut Vec<u8>, ends: &mut Vec<usize>, place: usize)
-    requires keeps { Keeps (strings_in bytes.old.items ends.old.items) bytes.old.items
-        ends.old.items }
+    requires keeps { KeepsOwn bytes.old.items ends.old.items }
     requires within { place < length ends.old.items }
-    ensures { Keeps (take place (strings_in bytes.old.items ends.old.items)
-        ++ drop (place + 1) (strings_in bytes.old.items ends.old.items)) bytes.new.items
-        ends.new.items }
+    ensures { Keeps (without_at place (strings_in bytes.old.items ends.old.items))
+        bytes.new.items ends.new.items }
 {
     let start = begin_at(ends, place);
     if place + 1 == ends.len() {
@@ -115,8 +112,7 @@ pub(super) fn replace(
     place: usize,
     string: &[u8],
 ) -> Result<(), AllocError>
-    requires keeps { Keeps (strings_in bytes.old.items ends.old.items) bytes.old.items
-        ends.old.items }
+    requires keeps { KeepsOwn bytes.old.items ends.old.items }
     requires within { place < length ends.old.items }
     requires short { length string.now < 2 ^ 32 }
     ensures ok { OnOk result (Keeps (take place (strings_in bytes.old.items ends.old.items)
