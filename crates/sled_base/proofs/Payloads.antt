@@ -3,3 +3,4 @@ pub mod Refusals
 pub mod LowBytes
 pub mod PlainNumber
 pub mod ByteStrings
+pub mod NumberSizes

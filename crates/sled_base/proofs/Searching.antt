@@ -11,6 +11,7 @@ use Rattle.std.proofs.lemmas.Bool.{cases_lt}
 use Rattle.std.proofs.lemmas.List.{get_or-map, length-map, map-id}
 use Rattle.sled_base.specs.Order.{Bytes, bytes_cmp, is_below, IsBelow, IsAtMost}
 use Rattle.sled_base.specs.OrderLaws.{not_below_itself, above_is_below, below_is_above, below_is_at_most, at_most_trans, below_or_same, at_most_below_trans}
+use Rattle.sled_base.proofs.Each.{all_at}
 use Rattle.sled_base.specs.Searches.{IsSorted, IsCountAtMost, IsLastEqual, count_below}
 
 -- what a test says of an order
@@ -30,11 +31,6 @@ test_gt Equal h = absurd cc
 test_gt Greater h = refl
 
 -- no key is above one at a later place
-all_at : {X : Type 0} (P : X → Type 0) (xs : List X) (j : ℕ) (d : X) → AllByRecursion P xs → j < length xs → P (get_or xs j d)
-all_at P [] j d h lt = absurd (omega arith)
-all_at P (x ∷ xs) zero d h lt = h.0
-all_at P (x ∷ xs) (suc j) d h lt = all_at P xs j d h.1 (omega arith)
-
 sorted_at : (keys : List Bytes) (i j : ℕ) (d : Bytes) → IsSorted keys → i ≤ j → j < length keys → IsAtMost (get_or keys i d) (get_or keys j d)
 sorted_at [] i j d sorted le lt = absurd (omega arith)
 sorted_at (key ∷ keys) zero zero d sorted le lt = not_below_itself key

@@ -5,12 +5,12 @@ use Rattle.std.proofs.lemmas.List.{take_all, take-append-drop, length-append, le
 use Rattle.std.proofs.lemmas.Bool.{le-leb}
 use Rattle.std.proofs.Math.ListN.{drop_of_length-le}
 use Rattle.std.proofs.Math.Seq.{take-append-add, drop-append-add}
-use Rattle.std.specs.Prelude.{Result, Ok, Err, OnOk, OnErr, nat_le, nat_lt}
+use Rattle.std.specs.Prelude.{Result, Ok, Err, OnOk, OnErr}
 use Rattle.sled_base.specs.Order.{Bytes}
-use Rattle.sled_base.specs.Payloads.Numbers.{written_u64, byte_count}
-use Rattle.sled_base.specs.Payloads.NumberLaws.{chosen, length-low_bytes}
+use Rattle.sled_base.specs.Payloads.Numbers.{written_u64}
 use Rattle.sled_base.specs.Payloads.ByteStrings.{written_bytes, CanWriteBytes}
 use Rattle.sled_base.specs.Strings.{ends_from, strings_in, Keeps, begin_of, IsPlain, with_at, without_at}
+use Rattle.sled_base.proofs.Payloads.NumberSizes.{number_size}
 use Rattle.sled_base.specs.StringLaws.{strings_are, strings_count, keeps_own, written, written_both, ends_all, all_both, all_front, ends_count, parts_at, lies_at, spliced, can_move, ends_last_between}
 
 pub on_ok_so : {T E : Type 0} {P Q : Type 0} (r : Result T E) → (P → Q) → OnOk r P → OnOk r Q
@@ -26,23 +26,6 @@ take_less (suc i) (suc j) (x ∷ xs) le = ap (λ rest. x ∷ rest) (take_less i 
 
 pub same_less : {X : Type 0} (i j : ℕ) (xs ys : List X) → i ≤ j → take j xs ≡ take j ys → take i xs ≡ take i ys
 same_less i j xs ys le same = sym (take_less i j xs le) ∙ ap (take i) same ∙ take_less i j ys le
-
--- no number takes more than nine bytes
-few_bytes : (n : ℕ) → byte_count n ≤ 8
-few_bytes n =
-    let P = λ (k : ℕ). k ≤ 8 in
-    chosen P (nat_lt n (2 ^ 24)) _ _ (λ _. omega arith) (λ _.
-    chosen P (nat_lt n (2 ^ 32)) _ _ (λ _. omega arith) (λ _.
-    chosen P (nat_lt n (2 ^ 40)) _ _ (λ _. omega arith) (λ _.
-    chosen P (nat_lt n (2 ^ 48)) _ _ (λ _. omega arith) (λ _.
-    chosen P (nat_lt n (2 ^ 56)) _ _ (λ _. omega arith) (λ _. omega arith)))))
-
-number_size : (n : ℕ) → length (written_u64 n) ≤ 9
-number_size n =
-    let P = λ (s : List ℕ). length s ≤ 9 in
-    chosen P (nat_le n 240) _ _ (λ _. omega arith) (λ _.
-    chosen P (nat_le n 2287) _ _ (λ _. omega arith) (λ _.
-    chosen P (nat_le n 67823) _ _ (λ _. omega arith) (λ _. omega (arith, length-low_bytes (byte_count n) n, few_bytes n))))
 
 pub string_size : (string : Bytes) → length (written_bytes string) ≤ length string + 9
 string_size string = omega (arith, number_size (length string), length-append (written_u64 (length string)) string)
@@ -81,11 +64,6 @@ gap_closed items moved start end order within same down =
     ap (λ n. take n (take start items ++ moved)) rest ∙ take-append-add (take start items) moved (length (drop start items) - (end - start)) ∙ ap (λ r. take start items ++ r) (down ∙ drop-drop (end - start) start items ∙ ap (λ n. drop n items) sum)
 
 -- ---- ends that move
-
-pub all_at : {X : Type 0} (P : X → Type 0) (xs : List X) (j : ℕ) (d : X) → AllByRecursion P xs → j < length xs → P (get_or xs j d)
-all_at P [] j d h lt = absurd (omega arith)
-all_at P (x ∷ xs) zero d h lt = h.0
-all_at P (x ∷ xs) (suc j) d h lt = all_at P xs j d h.1 (omega arith)
 
 -- the end at a place that is next to be moved is as it was
 pub next_end : (f : ℕ → ℕ) (ends now : List ℕ) (i : ℕ) → i < length ends → now ≡ map f (take i ends) ++ drop i ends → get_or now i 0 ≡ get_or ends i 0

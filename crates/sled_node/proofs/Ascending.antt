@@ -6,17 +6,13 @@ use Rattle.std.specs.List.{AllByRecursion}
 use Rattle.sled_base.specs.Order.{Bytes, IsBelow}
 use Rattle.sled_base.specs.OrderLaws.{below_trans}
 use Rattle.sled_node.specs.Pairs.{IsAscending}
+use Rattle.sled_base.proofs.Each.{all_at}
 
 -- one more element, and one of them
 pub all_more : {X : Type 0} (P : X → Type 0) (xs : List X) (j : ℕ) (d : X) → AllByRecursion P (take j xs) → j < length xs → P (get_or xs j d) → AllByRecursion P (take (suc j) xs)
 all_more P [] j d h lt here = absurd (omega arith)
 all_more P (x ∷ xs) zero d h lt here = (here, tt)
 all_more P (x ∷ xs) (suc j) d h lt here = (h.0, all_more P xs j d h.1 (omega arith) here)
-
-pub all_at : {X : Type 0} (P : X → Type 0) (xs : List X) (j : ℕ) (d : X) → AllByRecursion P xs → j < length xs → P (get_or xs j d)
-all_at P [] j d h lt = absurd (omega arith)
-all_at P (x ∷ xs) zero d h lt = h.0
-all_at P (x ∷ xs) (suc j) d h lt = all_at P xs j d h.1 (omega arith)
 
 pub all_at_front : {X : Type 0} (P : X → Type 0) (xs : List X) (j : ℕ) (d : X) → AllByRecursion P (take (suc j) xs) → j < length xs → P (get_or xs j d)
 all_at_front P [] j d h lt = absurd (omega arith)

@@ -19,7 +19,7 @@ use Rattle.sled_node.specs.Node.{Item, Child, WholeNode, whole, IsInRange, IsWel
 use Rattle.sled_node.specs.Parts.{node_of, HoldsData}
 use Rattle.sled_node.specs.Inserts.{HasKey, inserted}
 use Rattle.sled_node.specs.Children.{BeginsAtMost, HasChildFor, AcceptsChild, IsLeadingPair, with_child}
-use Rattle.sled_node.proofs.Ascending.{all_at}
+use Rattle.sled_base.proofs.Each.{all_at}
 use Rattle.sled_node.proofs.Edits.{ascending_set, all_set}
 use Rattle.sled_node.proofs.NodeEdits.{made, set_under}
 use Rattle.sled_node.proofs.Places.{all_so}

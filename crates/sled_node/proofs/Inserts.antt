@@ -11,7 +11,7 @@ use Rattle.sled_base.specs.Order.{Bytes, bytes_cmp, is_below, IsBelow}
 use Rattle.sled_base.specs.OrderLaws.{equal_is_same, not_below_itself, reversed}
 use Rattle.sled_node.specs.Pairs.{IsWithinLimit, IsAscending, pairs_below, pairs_above, set_pair, StandsAt, IsGap, HasPairs}
 use Rattle.sled_node.specs.Inserts.{HasKey, inserted}
-use Rattle.sled_node.proofs.Ascending.{all_at}
+use Rattle.sled_base.proofs.Each.{all_at}
 use Rattle.sled_node.proofs.Edits.{all_append, all_filter, all_passed, few_del, has_set}
 use Rattle.sled_node.proofs.Places.{all_so}
 

@@ -15,7 +15,7 @@ use Rattle.sled_node.specs.Pairs.{IsWithinLimit, IsAscending, HasPairs, StandsAt
 use Rattle.sled_node.specs.LeafStrings.{pairs_of, paired, IsLeaf}
 use Rattle.sled_node.specs.Payloads.PairLaws.{all_keys, all_items}
 use Rattle.sled_node.specs.Restoring.{restored}
-use Rattle.sled_node.proofs.Ascending.{all_at}
+use Rattle.sled_base.proofs.Each.{all_at}
 use Rattle.sled_node.proofs.Edits.{all_append}
 use Rattle.sled_node.proofs.Restoring.{all_parts}
 use Rattle.sled_node.proofs.Places.{stands}

@@ -14,7 +14,8 @@ use Rattle.sled_node.specs.Node.{Item, Value, Child, WholeNode}
 use Rattle.sled_node.specs.Pairs.{IsAscending, pairs_below, pairs_above, StandsAt, IsGap}
 use Rattle.sled_node.specs.Neighbours.{IsCount, IsLeast, IsGreatest}
 use Rattle.sled_node.proofs.Places.{all_so}
-use Rattle.sled_node.proofs.Ascending.{all_at, all_at_front, all_more}
+use Rattle.sled_base.proofs.Each.{all_at}
+use Rattle.sled_node.proofs.Ascending.{all_at_front, all_more}
 
 -- ---- orders
 

@@ -13,7 +13,8 @@ use Rattle.std.proofs.Math.Numerals.{add-one}
 use Rattle.sled_base.specs.Order.{Bytes, bytes_cmp, is_below, IsBelow}
 use Rattle.sled_base.specs.OrderLaws.{equal_is_same, not_below_itself, below_trans, above_is_below, below_is_above}
 use Rattle.sled_node.specs.Pairs.{IsAscending, pairs_below, pairs_above, set_pair, StandsAt, IsGap}
-use Rattle.sled_node.proofs.Ascending.{all_at, ascending_at, ascending_next}
+use Rattle.sled_base.proofs.Each.{all_at}
+use Rattle.sled_node.proofs.Ascending.{ascending_at, ascending_next}
 
 -- what passes everywhere stays, and what passes nowhere goes
 filter_all : {X : Type 0} (p : X → Bool) (xs : List X) → AllByRecursion (λ x. p x ≡ true) xs → filter p xs ≡ xs

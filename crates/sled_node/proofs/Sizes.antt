@@ -11,7 +11,7 @@ use Rattle.sled_node.specs.Pairs.{IsWithinLimit, HasPairs}
 use Rattle.sled_node.specs.Node.{Item, Value, Child}
 use Rattle.sled_node.specs.Parts.{pairs_under}
 use Rattle.sled_node.specs.Sizes.{item_size, pair_size, leaf_size, index_size, data_size}
-use Rattle.sled_node.proofs.Ascending.{all_at}
+use Rattle.sled_base.proofs.Each.{all_at}
 use Rattle.sled_node.proofs.NodeEdits.{made}
 
 -- ---- limits

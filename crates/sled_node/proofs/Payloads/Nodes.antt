@@ -16,7 +16,8 @@ use Rattle.sled_node.specs.Payloads.Data.{AsksData, written_data}
 use Rattle.sled_node.specs.Payloads.Nodes.{NodeParts, ReadsParts, AsksNode, node_from, ReadsNode, written_node}
 use Rattle.sled_node.specs.Payloads.NodeLaws.{number_of_page, stored_again, formed_stored, one_parts}
 use Rattle.sled_node.proofs.WholeKeys.{prefix_within}
-use Rattle.sled_node.proofs.Payloads.Sizes.{number_size, string_size}
+use Rattle.sled_base.proofs.Payloads.NumberSizes.{number_size}
+use Rattle.sled_node.proofs.Payloads.Sizes.{string_size}
 
 -- what a node is written of
 abbrev pub parts_of : Inside → NodeParts

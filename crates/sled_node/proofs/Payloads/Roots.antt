@@ -15,7 +15,8 @@ use Rattle.sled_node.specs.Payloads.SequenceLaws.{ReadsAll-more}
 use Rattle.sled_node.specs.Payloads.Roots.{ReadsRoot, ReadsRoots, AsksRoots, written_root, written_roots}
 use Rattle.sled_node.specs.Payloads.RootLaws.{CanWriteRoot, go_on, can_write_roots}
 use Rattle.sled_node.proofs.Roots.{fits_with, never_fewer, ascending_with}
-use Rattle.sled_node.proofs.Payloads.Sizes.{all_size, number_size, string_size}
+use Rattle.sled_base.proofs.Payloads.NumberSizes.{number_size}
+use Rattle.sled_node.proofs.Payloads.Sizes.{all_size, string_size}
 
 -- the pairs that a map comes from, so far
 abbrev pub PutSoFar : List ℕ → List ℕ → Roots → Type 0

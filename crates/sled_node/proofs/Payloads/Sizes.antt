@@ -1,6 +1,5 @@
 -- What is written within the limits is short enough for a size of 64 bits.
 use Rattle.std.proofs.Common.{ℕ, ◌+◌, ◌*◌, ◌<◌, ◌≤◌, ◌^◌, List, [], ◌∷◌, ◌++◌, length, arith}
-use Rattle.std.specs.Prelude.{nat_le, nat_lt}
 use Rattle.std.specs.List.{flat_map, AllByRecursion}
 use Rattle.std.proofs.Math.Nat.{suc-mul}
 use Rattle.std.proofs.lemmas.List.{length-append, length-map}
@@ -9,29 +8,13 @@ use Rattle.sled_node.specs.declared.node.data.Data.{Data}
 use Rattle.sled_node.specs.declared.node.data.Data.TheVariants.{Leaf, Index}
 use Rattle.sled_node.specs.Pairs.{IsWithinLimit, HasPairs}
 use Rattle.sled_node.specs.Parts.{HasStored}
-use Rattle.sled_base.specs.Payloads.Numbers.{byte_count, written_u64}
-use Rattle.sled_base.specs.Payloads.NumberLaws.{chosen, length-low_bytes}
+use Rattle.sled_base.specs.Payloads.Numbers.{written_u64}
 use Rattle.sled_base.specs.Payloads.ByteStrings.{written_bytes}
+use Rattle.sled_base.proofs.Payloads.NumberSizes.{number_size}
 use Rattle.sled_node.specs.Payloads.Pairs.{keys_of, items_of, written_pairs}
 use Rattle.sled_node.specs.Payloads.PairLaws.{all_keys, all_items}
 use Rattle.sled_node.specs.Payloads.Data.{written_data}
 use Rattle.sled_node.specs.Payloads.Roots.{written_root}
-
-few_bytes : (n : ℕ) → byte_count n ≤ 8
-few_bytes n =
-    let P = λ (count : ℕ). count ≤ 8 in
-    chosen P (nat_lt n (2 ^ 24)) _ _ (λ _. omega arith) (λ _.
-    chosen P (nat_lt n (2 ^ 32)) _ _ (λ _. omega arith) (λ _.
-    chosen P (nat_lt n (2 ^ 40)) _ _ (λ _. omega arith) (λ _.
-    chosen P (nat_lt n (2 ^ 48)) _ _ (λ _. omega arith) (λ _.
-    chosen P (nat_lt n (2 ^ 56)) _ _ (λ _. omega arith) (λ _. omega arith)))))
-
-pub number_size : (n : ℕ) → length (written_u64 n) ≤ 9
-number_size n =
-    let P = λ (s : List ℕ). length s ≤ 9 in
-    chosen P (nat_le n 240) _ _ (λ _. omega arith) (λ _.
-    chosen P (nat_le n 2287) _ _ (λ _. omega arith) (λ _.
-    chosen P (nat_le n 67823) _ _ (λ _. omega arith) (λ _. omega (arith, length-low_bytes (byte_count n) n, few_bytes n))))
 
 -- a name and its page
 pub pair_size : (name : Bytes) (root : ℕ) → length (written_root (name, root)) ≤ length name + 18

@@ -1,7 +1,7 @@
 use Rattle.std.proofs.Common.{◌+◌, ◌-◌, ◌<◌, ◌≤◌, ◌^◌, length, get_or, arith}
 use Rattle.std.proofs.lemmas.List.{get_or_default}
 use Rattle.std.proofs.lemmas.List.Edits.{map_over_more}
-use Rattle.sled_base.proofs.StringEdits.{all_at}
+use Rattle.sled_base.proofs.Each.{all_at}
 use Rattle.sled_base.proofs.StringEdits.{next_end}
 use Rattle.sled_base.proofs.strings.edits.move_all.Goals as goal
 

@@ -2,7 +2,8 @@ use Rattle.std.proofs.Common.{◌≡◌, [], ◌<◌, length, get_or, sym, ap, s
 use Rattle.std.proofs.lemmas.Option.{get_or_from_slice_get}
 use Rattle.sled_base.specs.Order.{Bytes}
 use Rattle.sled_node.specs.Parts.{IsStoredWithin}
-use Rattle.sled_node.proofs.Ascending.{all_at, all_more}
+use Rattle.sled_base.proofs.Each.{all_at}
+use Rattle.sled_node.proofs.Ascending.{all_more}
 use Rattle.sled_node.proofs.LeafStrings.{key_there, many_both}
 use Rattle.sled_node.proofs.node.parts.leaf_is_within.Goals as goal
 
