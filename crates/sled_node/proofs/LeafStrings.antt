@@ -1,8 +1,8 @@
 -- The pairs of a leaf, whose strings are all stored keys and then all values.
 use Rattle.std.proofs.Common.{◌≡◌, ℕ, suc, ◌+◌, ◌-◌, ◌/◌, ◌<◌, ◌≤◌, List, [], ◌∷◌, ◌++◌, Some, length, get_or, map, take, drop, refl, sym, ap, subst, ◌∙◌, append_assoc, arith}
-use Rattle.std.proofs.lemmas.List.{length-append, length-map, length-take-le, take_at, drop_at, take-append-drop, drop_more, length-drop, length-take, take_all, map_more, get_or-drop, get_or-take, get_or_append_left, get_or-append-add, get_or-map}
+use Rattle.std.proofs.lemmas.List.{length-append, length-map, length-take-le, take_at, drop_at, take-append-drop, drop_more, length-drop, map-append, length-take, take_all, map_more, get_or-drop, get_or-take, get_or_append_left, get_or-append-add, get_or-map}
 use Rattle.std.proofs.lemmas.Option.{get_or_from_slice_get, slice_get_read, slice_get_within}
-use Rattle.std.proofs.Math.Seq.{take-append-add, drop-append-add}
+use Rattle.std.proofs.Math.Seq.{drop-append-add}
 use Rattle.std.specs.List.{flat_map, AllByRecursion, HoldsAt, slice_get}
 use Rattle.sled_base.specs.Payloads.Numbers.{written_u64}
 use Rattle.sled_base.specs.Payloads.ByteStrings.{written_bytes}
@@ -98,79 +98,83 @@ same_tests false true one two so back = let yes = one.1 (back (two.0 refl)) in a
 same_tests false false one two so back = refl
 
 -- keys and items of parts
-pub keys_both : (xs ys : Pairs) → keys_of (xs ++ ys) ≡ keys_of xs ++ keys_of ys
-keys_both [] ys = refl
-keys_both (x ∷ xs) ys = ap (λ rest. x.0 ∷ rest) (keys_both xs ys)
+keys_both : (xs ys : Pairs) → keys_of (xs ++ ys) ≡ keys_of xs ++ keys_of ys
+keys_both = map-append (λ pair. pair.0)
 
-pub items_both : (xs ys : Pairs) → items_of (xs ++ ys) ≡ items_of xs ++ items_of ys
-items_both [] ys = refl
-items_both (x ∷ xs) ys = ap (λ rest. x.1 ∷ rest) (items_both xs ys)
+items_both : (xs ys : Pairs) → items_of (xs ++ ys) ≡ items_of xs ++ items_of ys
+items_both = map-append (λ pair. pair.1)
 
 -- ---- edits
 
+-- strings that begin with these have others behind the place where these end
+module _ (front : List Bytes) {place : ℕ} (many : length front ≡ place) where
+  before_there : {all : List Bytes} (back : List Bytes) → all ≡ front ++ back → take place all ≡ front
+  before_there back is = ap (take place) is ∙ take_at front back place many
+
+  behind_there : {all : List Bytes} (old : Bytes) (back : List Bytes) → all ≡ front ++ old ∷ back → drop (place + 1) all ≡ back
+  behind_there old back is =
+      ap (drop (place + 1)) is ∙ ap (λ n. drop (n + 1) (front ++ old ∷ back)) (sym many) ∙ drop-append-add front (old ∷ back) 1
+
+  with_there : {all : List Bytes} (new : Bytes) (back : List Bytes) → all ≡ front ++ back → with_at place new all ≡ front ++ new ∷ back
+  with_there new back is =
+      let rest = ap (drop place) is ∙ drop_at front back place many in
+      λ i. before_there back is i ++ new ∷ rest i
+
+  without_there : {all : List Bytes} (old : Bytes) (back : List Bytes) → all ≡ front ++ old ∷ back → without_at place all ≡ front ++ back
+  without_there old back is = λ i. before_there (old ∷ back) is i ++ behind_there old back is i
+
+  set_there : {all : List Bytes} (old new : Bytes) (back : List Bytes) → all ≡ front ++ old ∷ back → take place all ++ new ∷ drop (place + 1) all ≡ front ++ new ∷ back
+  set_there old new back is = λ i. before_there (old ∷ back) is i ++ new ∷ behind_there old back is i
+
+three : (a b c d : List Bytes) → (a ++ (b ++ c)) ++ d ≡ a ++ (b ++ (c ++ d))
+three a b c d = simp append_assoc
+
 module _ (front back : Pairs) where
-  -- what stands where in the strings of the pairs of both
-  split_of : keys_of (front ++ back) ++ items_of (front ++ back) ≡ (keys_of front ++ keys_of back) ++ (items_of front ++ items_of back)
-  split_of = λ i. keys_both front back i ++ items_both front back i
+  -- what stands where in the strings of the pairs of both, and in those with a pair between them
+  split_of : strings_of (front ++ back) ≡ keys_of front ++ (keys_of back ++ (items_of front ++ items_of back))
+  split_of =
+      (λ i. keys_both front back i ++ items_both front back i) ∙ append_assoc (keys_of front) (keys_of back) (items_of front ++ items_of back)
 
-  count_of : length (keys_of front ++ keys_of back) ≡ length (front ++ back)
-  count_of = omega (arith, length-append (keys_of front) (keys_of back), length-append front back, many_keys front, many_keys back)
+  split_at : (pair : Bytes × Bytes) → strings_of (front ++ pair ∷ back) ≡ keys_of front ++ pair.0 ∷ (keys_of back ++ (items_of front ++ pair.1 ∷ items_of back))
+  split_at pair =
+      (λ i. keys_both front (pair ∷ back) i ++ items_both front (pair ∷ back) i) ∙ append_assoc (keys_of front) (pair.0 ∷ keys_of back) (items_of front ++ pair.1 ∷ items_of back)
 
-  -- a value put in, and then its key
-  pub put_pair : (key value : Bytes) (strings longer : List Bytes) (place count : ℕ) → strings ≡ keys_of (front ++ back) ++ items_of (front ++ back) → place ≡ length front → count ≡ length (front ++ back)
-      → longer ≡ with_at (count + place) value strings
-      → with_at place key longer ≡ keys_of (front ++ (key, value) ∷ back) ++ items_of (front ++ (key, value) ∷ back)
-  put_pair key value strings longer place count is place_is count_is longer_is =
-      let ks = keys_of front ++ keys_of back in
-      let vs = items_of front ++ items_of back in
-      let all : strings ≡ ks ++ vs = is ∙ split_of in
-      let n : length ks ≡ count = count_of ∙ sym count_is in
-      let in_values : place ≡ length (items_of front) = place_is ∙ sym (many_items front) in
-      let in_keys : length (keys_of front) ≡ place = many_keys front ∙ sym place_is in
-      let low : take (count + place) strings ≡ ks ++ items_of front = (λ i. take (sym n i + place) (all i)) ∙ take-append-add ks vs place ∙ ap (λ r. ks ++ r) (take_at (items_of front) (items_of back) place (sym in_values)) in
-      let high : drop (count + place) strings ≡ items_of back = (λ i. drop (sym n i + place) (all i)) ∙ drop-append-add ks vs place ∙ drop_at (items_of front) (items_of back) place (sym in_values) in
-      let rest = items_of front ++ value ∷ items_of back in
-      let with_value : longer ≡ keys_of front ++ (keys_of back ++ rest) = longer_is ∙ (λ i. low i ++ value ∷ high i) ∙ append_assoc ks (items_of front) (value ∷ items_of back) ∙ append_assoc (keys_of front) (keys_of back) rest in
-      let first : take place longer ≡ keys_of front = ap (take place) with_value ∙ take_at (keys_of front) (keys_of back ++ rest) place in_keys in
-      let last : drop place longer ≡ keys_of back ++ rest = ap (drop place) with_value ∙ drop_at (keys_of front) (keys_of back ++ rest) place in_keys in
-      (λ i. first i ++ key ∷ last i) ∙ sym (append_assoc (keys_of front) (key ∷ keys_of back) rest) ∙ (λ i. sym (keys_both front ((key, value) ∷ back)) i ++ sym (items_both front ((key, value) ∷ back)) i)
+  module _ (strings : List Bytes) (place count : ℕ) (place_is : place ≡ length front) where
+    in_keys : length (keys_of front) ≡ place
+    in_keys = many_keys front ∙ sym place_is
 
-  -- a value in the place of another
-  pub put_value : (old : Bytes × Bytes) (value : Bytes) (strings : List Bytes) (place count : ℕ) → strings ≡ keys_of (front ++ old ∷ back) ++ items_of (front ++ old ∷ back) → place ≡ length front → count ≡ length (front ++ old ∷ back)
-      → take (count + place) strings ++ value ∷ drop (count + place + 1) strings ≡ keys_of (front ++ (old.0, value) ∷ back) ++ items_of (front ++ (old.0, value) ∷ back)
-  put_value old value strings place count is place_is count_is =
-      let ks = keys_of (front ++ old ∷ back) in
-      let all : strings ≡ ks ++ (items_of front ++ old.1 ∷ items_of back) = is ∙ ap (λ r. ks ++ r) (items_both front (old ∷ back)) in
-      let n : length ks ≡ count = many_keys (front ++ old ∷ back) ∙ sym count_is in
-      let in_values : length (items_of front) ≡ place = many_items front ∙ sym place_is in
-      let low : take (count + place) strings ≡ ks ++ items_of front = (λ i. take (sym n i + place) (all i)) ∙ take-append-add ks (items_of front ++ old.1 ∷ items_of back) place ∙ ap (λ r. ks ++ r) (take_at (items_of front) (old.1 ∷ items_of back) place in_values) in
-      let after : items_of front ++ old.1 ∷ items_of back ≡ (items_of front ++ old.1 ∷ []) ++ items_of back = sym (append_assoc (items_of front) (old.1 ∷ []) (items_of back)) in
-      let sum : count + place + 1 ≡ length ks + (place + 1) = omega (arith, n) in
-      let high : drop (count + place + 1) strings ≡ items_of back = (λ i. drop (sum i) (all i)) ∙ drop-append-add ks (items_of front ++ old.1 ∷ items_of back) (place + 1) ∙ ap (drop (place + 1)) after ∙ drop_at (items_of front ++ old.1 ∷ []) (items_of back) (place + 1) (omega (arith, length-append (items_of front) (old.1 ∷ []), in_values)) in
-      let same_keys : ks ≡ keys_of (front ++ (old.0, value) ∷ back) = keys_both front (old ∷ back) ∙ sym (keys_both front ((old.0, value) ∷ back)) in
-      (λ i. low i ++ value ∷ high i) ∙ append_assoc ks (items_of front) (value ∷ items_of back) ∙ (λ i. same_keys i ++ sym (items_both front ((old.0, value) ∷ back)) i)
+    in_values : (between : List Bytes) → count ≡ length front + length (between ++ keys_of back) → length (keys_of front ++ ((between ++ keys_of back) ++ items_of front)) ≡ count + place
+    in_values between count_is =
+        omega (arith, place_is, count_is, many_keys front, many_items front, length-append (keys_of front) ((between ++ keys_of back) ++ items_of front), length-append (between ++ keys_of back) (items_of front))
 
-  -- a value taken out, and then its key
-  pub take_pair : (old : Bytes × Bytes) (strings shorter : List Bytes) (place count : ℕ) → strings ≡ keys_of (front ++ old ∷ back) ++ items_of (front ++ old ∷ back) → place ≡ length front → count ≡ length (front ++ old ∷ back)
-      → shorter ≡ without_at (count + place) strings
-      → without_at place shorter ≡ keys_of (front ++ back) ++ items_of (front ++ back)
-  take_pair old strings shorter place count is place_is count_is shorter_is =
-      let ks = keys_of (front ++ old ∷ back) in
-      let all : strings ≡ ks ++ (items_of front ++ old.1 ∷ items_of back) = is ∙ ap (λ r. ks ++ r) (items_both front (old ∷ back)) in
-      let n : length ks ≡ count = many_keys (front ++ old ∷ back) ∙ sym count_is in
-      let in_values : length (items_of front) ≡ place = many_items front ∙ sym place_is in
-      let in_keys : length (keys_of front) ≡ place = many_keys front ∙ sym place_is in
-      let low : take (count + place) strings ≡ ks ++ items_of front = (λ i. take (sym n i + place) (all i)) ∙ take-append-add ks (items_of front ++ old.1 ∷ items_of back) place ∙ ap (λ r. ks ++ r) (take_at (items_of front) (old.1 ∷ items_of back) place in_values) in
-      let after : items_of front ++ old.1 ∷ items_of back ≡ (items_of front ++ old.1 ∷ []) ++ items_of back = sym (append_assoc (items_of front) (old.1 ∷ []) (items_of back)) in
-      let sum : count + place + 1 ≡ length ks + (place + 1) = omega (arith, n) in
-      let high : drop (count + place + 1) strings ≡ items_of back = (λ i. drop (sum i) (all i)) ∙ drop-append-add ks (items_of front ++ old.1 ∷ items_of back) (place + 1) ∙ ap (drop (place + 1)) after ∙ drop_at (items_of front ++ old.1 ∷ []) (items_of back) (place + 1) (omega (arith, length-append (items_of front) (old.1 ∷ []), in_values)) in
-      let rest = items_of front ++ items_of back in
-      let without_value : shorter ≡ keys_of front ++ (old.0 ∷ keys_of back ++ rest) =
-      shorter_is ∙ (λ i. low i ++ high i) ∙ append_assoc ks (items_of front) (items_of back) ∙ ap (λ k. k ++ rest) (keys_both front (old ∷ back)) ∙ append_assoc (keys_of front) (old.0 ∷ keys_of back) rest in
-      let first : take place shorter ≡ keys_of front = ap (take place) without_value ∙ take_at (keys_of front) (old.0 ∷ keys_of back ++ rest) place in_keys in
-      let last : drop (place + 1) shorter ≡ keys_of back ++ rest =
-      ap (drop (place + 1)) (without_value ∙ sym (append_assoc (keys_of front) (old.0 ∷ []) (keys_of back ++ rest))) ∙ drop_at (keys_of front ++ old.0 ∷ []) (keys_of back ++ rest) (place + 1) (omega (arith, in_keys, length-append (keys_of front) (old.0 ∷ []))) in
-      (λ i. first i ++ last i) ∙ sym (append_assoc (keys_of front) (keys_of back) rest) ∙ (λ i. sym (keys_both front back) i ++ sym (items_both front back) i)
+    -- a value put in, and then its key
+    put_pair : (key value : Bytes) → strings ≡ strings_of (front ++ back) → count ≡ length (front ++ back) → with_at place key (with_at (count + place) value strings) ≡ strings_of (front ++ (key, value) ∷ back)
+    put_pair key value is count_is =
+        let ahead = keys_of front ++ (keys_of back ++ items_of front) in
+        let many : length ahead ≡ count + place = in_values [] (omega (arith, count_is, length-append front back, many_keys back)) in
+        let longer = with_there ahead many value (items_of back) (is ∙ split_of ∙ sym (three (keys_of front) (keys_of back) (items_of front) (items_of back))) ∙ three (keys_of front) (keys_of back) (items_of front) (value ∷ items_of back) in
+        with_there (keys_of front) in_keys key (keys_of back ++ (items_of front ++ value ∷ items_of back)) longer ∙ sym (split_at (key, value))
+
+    module _ (old : Bytes × Bytes) (is : strings ≡ strings_of (front ++ old ∷ back)) (count_is : count ≡ length (front ++ old ∷ back)) where
+      abbrev ahead : List Bytes
+      ahead = keys_of front ++ ((old.0 ∷ keys_of back) ++ items_of front)
+
+      many : length ahead ≡ count + place
+      many = in_values (old.0 ∷ []) (omega (arith, count_is, length-append front (old ∷ back), many_keys back))
+
+      split : strings ≡ ahead ++ old.1 ∷ items_of back
+      split = is ∙ split_at old ∙ sym (three (keys_of front) (old.0 ∷ keys_of back) (items_of front) (old.1 ∷ items_of back))
+
+      -- a value in the place of another
+      put_value : (value : Bytes) → take (count + place) strings ++ value ∷ drop (count + place + 1) strings ≡ strings_of (front ++ (old.0, value) ∷ back)
+      put_value value =
+          set_there ahead many old.1 value (items_of back) split ∙ three (keys_of front) (old.0 ∷ keys_of back) (items_of front) (value ∷ items_of back) ∙ sym (split_at (old.0, value))
+
+      -- a value taken out, and then its key
+      take_pair : without_at place (without_at (count + place) strings) ≡ strings_of (front ++ back)
+      take_pair =
+          let shorter = without_there ahead many old.1 (items_of back) split ∙ three (keys_of front) (old.0 ∷ keys_of back) (items_of front) (items_of back) in
+          without_there (keys_of front) in_keys old.0 (keys_of back ++ (items_of front ++ items_of back)) shorter ∙ sym split_of
 
 -- ---- an edit at the place of a key
 
@@ -178,43 +182,27 @@ module _ (pairs : Pairs) (strings : List Bytes) (are : strings ≡ keys_of pairs
   abbrev none : Bytes × Bytes
   none = ([], [])
 
-  parts_at : at < length pairs → take at pairs ++ get_or pairs at none ∷ drop (at + 1) pairs ≡ pairs
-  parts_at lt = ap (λ rest. take at pairs ++ rest) (sym (drop_more pairs at none lt)) ∙ take-append-drop at pairs
+  -- the pairs before the place of a pair, that pair, and the pairs behind it
+  parts_at : at < length pairs → pairs ≡ take at pairs ++ get_or pairs at none ∷ drop (at + 1) pairs
+  parts_at lt = sym (take-append-drop at pairs) ∙ ap (λ rest. take at pairs ++ rest) (drop_more pairs at none lt)
+
+  many_before : at ≤ length pairs → at ≡ length (take at pairs)
+  many_before le = sym (length-take-le at pairs le)
 
   pub value_put : (value : Bytes) → StandsAt pairs key at → HoldsAt (λ pair. pair.0 ≡ key) pairs at → take (count + at) strings ++ value ∷ drop (count + at + 1) strings ≡ keys_of (set_pair key value pairs) ++ items_of (set_pair key value pairs)
   value_put value stands same =
-      let split = parts_at stands.within in
-      let front = take at pairs in
-      let back = drop (at + 1) pairs in
-      let many : at ≡ length front = sym (length-take-le at pairs (omega (arith, stands.within))) in
-      let whole : front ++ get_or pairs at none ∷ back ≡ pairs = split in
-      let before : front ≡ pairs_below key pairs = stands.before in
-      let after : back ≡ pairs_above key pairs = stands.after in
-      let is : (get_or pairs at none).0 ≡ key = same none in
-      let after_is : front ++ ((get_or pairs at none).0, value) ∷ back ≡ set_pair key value pairs = λ i. before i ++ (is i, value) ∷ after i in
-      put_value front back (get_or pairs at none) value strings at count (are ∙ ap (λ ps. keys_of ps ++ items_of ps) (sym whole)) many (count_is ∙ ap length (sym whole)) ∙ ap (λ ps. keys_of ps ++ items_of ps) after_is
+      let parts = parts_at stands.within in
+      put_value (take at pairs) (drop (at + 1) pairs) strings at count (many_before (omega (arith, stands.within))) (get_or pairs at none) (are ∙ ap (λ ps. strings_of ps) parts) (count_is ∙ ap length parts) value ∙ (λ i. strings_of (stands.before i ++ (same none i, value) ∷ stands.after i))
 
   pub pair_put : (value : Bytes) → IsGap pairs key at → with_at at key (with_at (count + at) value strings) ≡ keys_of (set_pair key value pairs) ++ items_of (set_pair key value pairs)
   pair_put value gap =
-      let front = take at pairs in
-      let back = drop at pairs in
-      let whole : front ++ back ≡ pairs = take-append-drop at pairs in
-      let many : at ≡ length front = sym (length-take-le at pairs gap.within) in
-      let before : front ≡ pairs_below key pairs = gap.before in
-      let after : back ≡ pairs_above key pairs = gap.after in
-      let after_is : front ++ (key, value) ∷ back ≡ set_pair key value pairs = λ i. before i ++ (key, value) ∷ after i in
-      put_pair front back key value strings (with_at (count + at) value strings) at count (are ∙ ap (λ ps. keys_of ps ++ items_of ps) (sym whole)) many (count_is ∙ ap length (sym whole)) refl ∙ ap (λ ps. keys_of ps ++ items_of ps) after_is
+      let parts : pairs ≡ take at pairs ++ drop at pairs = sym (take-append-drop at pairs) in
+      put_pair (take at pairs) (drop at pairs) strings at count (many_before gap.within) key value (are ∙ ap (λ ps. strings_of ps) parts) (count_is ∙ ap length parts) ∙ (λ i. strings_of (gap.before i ++ (key, value) ∷ gap.after i))
 
   pub pair_taken : StandsAt pairs key at → without_at at (without_at (count + at) strings) ≡ keys_of (del_pair key pairs) ++ items_of (del_pair key pairs)
   pair_taken stands =
-      let whole = parts_at stands.within in
-      let front = take at pairs in
-      let back = drop (at + 1) pairs in
-      let many : at ≡ length front = sym (length-take-le at pairs (omega (arith, stands.within))) in
-      let before : front ≡ pairs_below key pairs = stands.before in
-      let after : back ≡ pairs_above key pairs = stands.after in
-      let after_is : front ++ back ≡ del_pair key pairs = λ i. before i ++ after i in
-      take_pair front back (get_or pairs at none) strings (without_at (count + at) strings) at count (are ∙ ap (λ ps. keys_of ps ++ items_of ps) (sym whole)) many (count_is ∙ ap length (sym whole)) refl ∙ ap (λ ps. keys_of ps ++ items_of ps) after_is
+      let parts = parts_at stands.within in
+      take_pair (take at pairs) (drop (at + 1) pairs) strings at count (many_before (omega (arith, stands.within))) (get_or pairs at none) (are ∙ ap (λ ps. strings_of ps) parts) (count_is ∙ ap length parts) ∙ (λ i. strings_of (stands.before i ++ stands.after i))
 
 -- how many pairs there are then
 module _ (key value : Bytes) (pairs : Pairs) (i : ℕ) where

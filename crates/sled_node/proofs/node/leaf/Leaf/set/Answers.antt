@@ -1,62 +1,38 @@
-use Rattle.std.proofs.Common.{◌+◌, ◌∷◌, ◌++◌, take, drop}
-use Rattle.sled_base.specs.Strings.{with_at}
+use Rattle.std.proofs.Common.{◌≡◌, ◌++◌}
+use Rattle.std.specs.Prelude.{OnOk}
 use Rattle.sled_node.specs.Pairs.{set_pair}
+use Rattle.sled_node.specs.Payloads.Pairs.{keys_of, items_of}
 use Rattle.sled_node.proofs.Edits.{has_set}
 use Rattle.sled_node.proofs.LeafStrings.{leaf_strings, leaf_stored, value_put, pair_put, leaf_after, pairs_after, on_ok_is}
+use Rattle.sled_node.proofs.node.leaf.Leaf.set.Goals.{After-replace, After-insert_both}
 use Rattle.sled_node.proofs.node.leaf.Leaf.set.Goals as goal
 
 -- a value in the place of another
+replaced : (c : After-replace) → let after = set_pair c.args.key.now c.args.value.now c.args.self.now in OnOk c.replace.result (c.replace.new.self ≡ keys_of after ++ items_of after)
+replaced c =
+    let are = leaf_strings c.self.inside.strings c.args.self.now c.self.invariant c.self.view_is in
+    let put = value_put c.args.self.now c.self.inside.strings are c.args.key.now c.in-Ok.at c.len-count.result c.len-count.ensures c.args.value.now c.in-Ok.ensures.found c.in-Ok.ensures.same in
+    on_ok_is c.self.inside.strings c.replace.new.self _ c.replace.result _ put c.replace.ensures.ok
+
 pub invariant_of-self : goal.invariant_of-self
 invariant_of-self c =
-    let strings = c.self.inside.strings in
-    let pairs = c.args.self.now in
-    let key = c.args.key.now in
-    let value = c.args.value.now in
-    let at = c.in-Ok.at in
-    let count = c.len-count.result in
-    let are = leaf_strings strings pairs c.self.invariant c.self.view_is in
-    let stored = leaf_stored strings pairs c.self.invariant c.self.view_is in
-    let made = take (count + at) strings ++ value ∷ drop (count + at + 1) strings in
-    let ok = on_ok_is strings c.replace.new.self (set_pair key value pairs) c.replace.result made (value_put pairs strings are key at count c.len-count.ensures value c.in-Ok.ensures.found c.in-Ok.ensures.same) c.replace.ensures.ok in
-    leaf_after strings c.replace.new.self (set_pair key value pairs) c.replace.result c.self.invariant (has_set key pairs stored value c.requires.key c.requires.value c.requires.room) ok c.replace.ensures.err
+    let has = has_set c.args.key.now c.args.self.now (leaf_stored _ _ c.self.invariant c.self.view_is) c.args.value.now c.requires.key c.requires.value c.requires.room in
+    leaf_after c.self.inside.strings c.replace.new.self _ c.replace.result c.self.invariant has (replaced (goal.at.invariant_of-self c).After-replace) c.replace.ensures.err
 
 pub returns-in-Ok-clause-ok : goal.returns-in-Ok-clause-ok
-returns-in-Ok-clause-ok c =
-    let strings = c.self.inside.strings in
-    let pairs = c.args.self.now in
-    let key = c.args.key.now in
-    let value = c.args.value.now in
-    let at = c.in-Ok.at in
-    let count = c.len-count.result in
-    let are = leaf_strings strings pairs c.self.invariant c.self.view_is in
-    let made = take (count + at) strings ++ value ∷ drop (count + at + 1) strings in
-    let ok = on_ok_is strings c.replace.new.self (set_pair key value pairs) c.replace.result made (value_put pairs strings are key at count c.len-count.ensures value c.in-Ok.ensures.found c.in-Ok.ensures.same) c.replace.ensures.ok in
-    pairs_after strings c.replace.new.self (set_pair key value pairs) c.replace.result ok
+returns-in-Ok-clause-ok c = pairs_after c.self.inside.strings c.replace.new.self _ c.replace.result (replaced (goal.at.returns-in-Ok-clause-ok c).After-replace)
 
 -- a pair more
+inserted : (c : After-insert_both) → let after = set_pair c.args.key.now c.args.value.now c.args.self.now in OnOk c.insert_both.result (c.insert_both.new.self ≡ keys_of after ++ items_of after)
+inserted c =
+    let are = leaf_strings c.self.inside.strings c.args.self.now c.self.invariant c.self.view_is in
+    let put = pair_put c.args.self.now c.self.inside.strings are c.args.key.now c.in-Err.at c.len-count.result c.len-count.ensures c.args.value.now c.in-Err.ensures.missing in
+    on_ok_is c.self.inside.strings c.insert_both.new.self _ c.insert_both.result _ put c.insert_both.ensures.ok
+
 pub invariant_of-self-in-Err : goal.invariant_of-self-in-Err
 invariant_of-self-in-Err c =
-    let strings = c.self.inside.strings in
-    let pairs = c.args.self.now in
-    let key = c.args.key.now in
-    let value = c.args.value.now in
-    let at = c.in-Err.at in
-    let count = c.len-count.result in
-    let are = leaf_strings strings pairs c.self.invariant c.self.view_is in
-    let stored = leaf_stored strings pairs c.self.invariant c.self.view_is in
-    let made = with_at at key (with_at (count + at) value strings) in
-    let ok = on_ok_is strings c.insert_both.new.self (set_pair key value pairs) c.insert_both.result made (pair_put pairs strings are key at count c.len-count.ensures value c.in-Err.ensures.missing) c.insert_both.ensures.ok in
-    leaf_after strings c.insert_both.new.self (set_pair key value pairs) c.insert_both.result c.self.invariant (has_set key pairs stored value c.requires.key c.requires.value c.requires.room) ok c.insert_both.ensures.err
+    let has = has_set c.args.key.now c.args.self.now (leaf_stored _ _ c.self.invariant c.self.view_is) c.args.value.now c.requires.key c.requires.value c.requires.room in
+    leaf_after c.self.inside.strings c.insert_both.new.self _ c.insert_both.result c.self.invariant has (inserted (goal.at.invariant_of-self-in-Err c).After-insert_both) c.insert_both.ensures.err
 
 pub returns-in-Err-clause-ok : goal.returns-in-Err-clause-ok
-returns-in-Err-clause-ok c =
-    let strings = c.self.inside.strings in
-    let pairs = c.args.self.now in
-    let key = c.args.key.now in
-    let value = c.args.value.now in
-    let at = c.in-Err.at in
-    let count = c.len-count.result in
-    let are = leaf_strings strings pairs c.self.invariant c.self.view_is in
-    let made = with_at at key (with_at (count + at) value strings) in
-    let ok = on_ok_is strings c.insert_both.new.self (set_pair key value pairs) c.insert_both.result made (pair_put pairs strings are key at count c.len-count.ensures value c.in-Err.ensures.missing) c.insert_both.ensures.ok in
-    pairs_after strings c.insert_both.new.self (set_pair key value pairs) c.insert_both.result ok
+returns-in-Err-clause-ok c = pairs_after c.self.inside.strings c.insert_both.new.self _ c.insert_both.result (inserted (goal.at.returns-in-Err-clause-ok c).After-insert_both)
