@@ -218,23 +218,9 @@ module _ (n : WholeNode) (formed : IsWellFormed n) (count : ℕ) (within : count
     }
 
     pub parts_split : SplitsBehind n count (left_part count s n) (right_part count s n)
-    parts_split = record {
-      pairs = all_pairs;
-      count = length-take-le count n.pairs within;
-      kinds = (refl, refl);
-      separator = parts;
-      left_lo = refl;
-      left_hi = refl;
-      right_hi = refl;
-      left_next = refl;
-      right_next = refl;
-      left_child = refl;
-      left_capped = refl;
-      right_child = refl;
-      right_capped = refl;
-      left_prefix = refl;
-      right_prefix = refl;
-    }
+    parts_split =
+        let many : length xs ≡ count = length-take-le count n.pairs within in
+        grind (arith, all_pairs, parts)
 
     pub parts_merge : MergeBack n (left_part count s n) (right_part count s n)
     parts_merge = record {
