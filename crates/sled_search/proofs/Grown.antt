@@ -1,11 +1,12 @@
 -- Small trees, worked out: each change by its law, and each search turn by turn.
-use Rattle.std.proofs.Common.{◌≡◌, ◌≢◌, inl, ℕ, ◌≤◌, List, [], ◌∷◌, ◌++◌, None, Some, length, refl, ◌∙◌, arith}
+use Rattle.std.proofs.Common.{◌≡◌, ◌≢◌, inl, ℕ, ◌≤◌, false, List, [], ◌∷◌, ◌++◌, None, Some, length, refl, ◌∙◌, arith}
 use Rattle.std.proofs.lemmas.Option.{slice_get_within}
 use Rattle.sled_base.proofs.LinkedLists.Linking.{get_pushed}
 use Rattle.sled_base.specs.Order.{Bytes, bytes_cmp, IsBelow, IsAtMost}
 use Rattle.sled_log.specs.Contents.{Content, Node}
 use Rattle.sled_node.specs.Node.{WholeNode, IsWellFormed}
-use Rattle.sled_node.specs.Splitting.{SplitsBehind}
+use Rattle.sled_node.specs.Splitting.{SeparatesAt, SplitsBehind}
+use Rattle.sled_node.proofs.SplitPairs.{left_formed, right_formed, parts_split}
 use Rattle.sled_search.specs.Examples.{one, leaf, over_one, cache_of, root, new_tree, one_leaf, half_way, two_leaves, three_pairs}
 use Rattle.sled_search.specs.Search.{Comes, IsTreeOf}
 use Rattle.sled_search.proofs.Empty.{empty-tree}
@@ -53,39 +54,12 @@ whole_leaf = leaf [] [] None ((1, 10) ∷ (3, 30) ∷ (5, 50) ∷ [])
 pub not-empty : one 5 ≢ []
 not-empty e = absurd (let h = e in cc)
 
-at_most-empty : (key : Bytes) → IsAtMost [] key
-at_most-empty key = never-below key
-
 no-shorter : (b : Bytes) → IsBelow (one 3) b → length (one 5) ≤ length b
 no-shorter [] lt = absurd (let h = lt in cc)
 no-shorter (x ∷ b) lt = omega arith
 
 same-at-most : (a : Bytes) → bytes_cmp a a ≡ bytes_cmp (one 5) (one 5) → IsAtMost a a
 same-at-most a is lt = absurd (let h = lt in let e = is in cc)
-
-pub parts : SplitsBehind whole_leaf 2 left_part right_part
-parts = record {
-  pairs = refl;
-  count = refl;
-  kinds = (refl, refl);
-  separator = record {
-    beginning = ([], refl);
-    above_left = refl;
-    not_above_right = same-at-most (one 5) refl;
-    shortest = λ b lt le. no-shorter b lt;
-  };
-  left_lo = refl;
-  left_hi = refl;
-  right_hi = refl;
-  left_next = refl;
-  right_next = refl;
-  left_child = refl;
-  left_capped = refl;
-  right_child = refl;
-  right_capped = refl;
-  left_prefix = refl;
-  right_prefix = refl;
-}
 
 pub whole_well : IsWellFormed whole_leaf
 whole_well = record {
@@ -102,35 +76,25 @@ whole_well = record {
   pages = (tt, tt);
 }
 
-pub left_well : IsWellFormed left_part
-left_well = record {
-  range = λ _. refl;
-  prefix_byte = omega arith;
-  prefix_open = λ _. refl;
-  prefix_common = refl;
-  ascending = ((refl, tt), (tt, tt));
-  in_range = ((at_most-empty (one 1), λ _. refl), ((at_most-empty (one 3), λ _. refl), tt));
-  few = omega arith;
-  bounds = (omega arith, omega arith);
-  keys = (omega arith, (omega arith, tt));
-  items = (omega arith, (omega arith, tt));
-  pages = (tt, tt);
+two-of-three : 2 ≤ 3
+two-of-three = omega arith
+
+separated : SeparatesAt false (Some (one 3)) (Some (one 5)) (one 5)
+separated = record {
+  beginning = ([], refl);
+  above_left = refl;
+  not_above_right = same-at-most (one 5) refl;
+  shortest = λ b lt le. no-shorter b lt;
 }
 
+pub parts : SplitsBehind whole_leaf 2 left_part right_part
+parts = parts_split whole_leaf whole_well 2 two-of-three (one 5) separated
+
+pub left_well : IsWellFormed left_part
+left_well = left_formed whole_leaf whole_well 2 two-of-three (one 5) separated
+
 pub right_well : IsWellFormed right_part
-right_well = record {
-  range = λ h. absurd (h refl);
-  prefix_byte = omega arith;
-  prefix_open = λ _. refl;
-  prefix_common = refl;
-  ascending = (tt, tt);
-  in_range = ((same-at-most (one 5) refl, λ h. absurd (h refl)), tt);
-  few = omega arith;
-  bounds = (omega arith, omega arith);
-  keys = (omega arith, tt);
-  items = (omega arith, tt);
-  pages = (tt, tt);
-}
+right_well = right_formed whole_leaf whole_well 2 two-of-three (one 5) separated
 
 pub with_right : IsTreeOf (one_leaf ++ Node right_part ∷ []) root three_pairs
 with_right = tree-added one_leaf (one_leaf ++ Node right_part ∷ []) 4 (λ pid other n at. get_pushed one_leaf (Node right_part) pid (slice_get_within one_leaf pid (Node n) at) ∙ at) (λ n at. absurd (let h = at in cc)) root three_pairs with_3
