@@ -1,5 +1,7 @@
 // Rows of nodes, as their payloads: next page, merging child, mark, prefix length, both bounds, kind, count, stored keys, items.
 
+use Sought::{At, Below, Last, UpTo};
+use Turn::{Astray, Down, Here, Right};
 use sled_base::{Error, IVec};
 use sled_node::{Node, Serialize};
 use sled_search::{Turn, route, route_before, value_in};
@@ -27,157 +29,96 @@ const BARE: &[u8] = b"\0\0\0\0\0\0\x01\0";
 // From "ba" up to "bz", whose first byte the stored keys lack.
 const UNDER_B: &[u8] = b"\0\0\0\x01\x02ba\x02bz\x01\x02\x01a\x01f\x03\x04";
 
-fn leads(alloc: Global, payload: &[u8], key: &[u8], turn: Turn) -> bool {
-    match node_of(alloc, payload) {
-        Some(node) => route(&node, key) == turn,
-        None => false,
-    }
+// What is looked for: a key, or the last key before a bound.
+#[derive(Clone, Copy)]
+enum Sought {
+    At(&'static [u8]),
+    UpTo(&'static [u8]),
+    Below(&'static [u8]),
+    Last,
 }
 
-const KEYS: &[(&str, &[u8], &[u8], Turn)] = &[
-    ("a key of a leaf", LEAF, b"c", Turn::Here),
-    ("a key that a leaf lacks", LEAF, b"d", Turn::Here),
-    ("where a leaf begins", LEAF, b"b", Turn::Here),
-    ("where it ends", LEAF, b"m", Turn::Right(7)),
-    ("behind its end", LEAF, b"z", Turn::Right(7)),
-    ("before it begins", LEAF, b"a", Turn::Right(7)),
-    ("a leaf with no end", LAST, b"z", Turn::Here),
-    ("before a leaf with no neighbour", LAST, b"a", Turn::Astray),
-    ("at the first child", INDEX, b"b", Turn::Down(3)),
-    ("behind the first child's key", INDEX, b"ez", Turn::Down(3)),
-    ("at the second child", INDEX, b"f", Turn::Down(4)),
-    ("behind the last child's key", INDEX, b"lz", Turn::Down(4)),
-    ("where an index ends", INDEX, b"m", Turn::Right(7)),
-    ("an index with no child", BARE, b"a", Turn::Astray),
-    ("a key with the prefix", UNDER_B, b"bc", Turn::Down(3)),
-    ("the empty key", BARE, b"", Turn::Astray),
+// A name, a node, what is looked for, and where the node leads it.
+type Row = (&'static str, &'static [u8], Sought, Turn);
+
+const KEYS: &[Row] = &[
+    ("a key of a leaf", LEAF, At(b"c"), Here),
+    ("a key that a leaf lacks", LEAF, At(b"d"), Here),
+    ("where a leaf begins", LEAF, At(b"b"), Here),
+    ("where it ends", LEAF, At(b"m"), Right(7)),
+    ("behind its end", LEAF, At(b"z"), Right(7)),
+    ("before it begins", LEAF, At(b"a"), Right(7)),
+    ("a leaf with no end", LAST, At(b"z"), Here),
+    ("before a leaf with no neighbour", LAST, At(b"a"), Astray),
+    ("at the first child", INDEX, At(b"b"), Down(3)),
+    ("behind the first child's key", INDEX, At(b"ez"), Down(3)),
+    ("at the second child", INDEX, At(b"f"), Down(4)),
+    ("behind the last child's key", INDEX, At(b"lz"), Down(4)),
+    ("where an index ends", INDEX, At(b"m"), Right(7)),
+    ("an index with no child", BARE, At(b"a"), Astray),
+    ("a key with the prefix", UNDER_B, At(b"bc"), Down(3)),
+    ("the empty key", BARE, At(b""), Astray),
 ];
 
-#[test]
-fn keys_are_led(rt: HostRuntime) {
-    for (row, payload, key, turn) in KEYS {
-        assert!(rt; leads(rt.alloc(), payload, key, *turn), "{row}");
-    }
-}
-
-// Which bound a row has.
-#[derive(Clone, Copy)]
-enum Kind {
-    UpTo,
-    Below,
-    All,
-}
-
-fn bound_of(alloc: Global, kind: Kind, key: &[u8]) -> Option<Bound<IVec>> {
-    let key = IVec::from_slice(alloc, key).ok()?;
-    Some(match kind {
-        Kind::UpTo => Bound::Included(key),
-        Kind::Below => Bound::Excluded(key),
-        Kind::All => Bound::Unbounded,
-    })
-}
-
-fn leads_before(alloc: Global, payload: &[u8], kind: Kind, key: &[u8], turn: Turn) -> bool {
-    match (node_of(alloc, payload), bound_of(alloc, kind, key)) {
-        (Some(node), Some(bound)) => route_before(&node, &bound) == turn,
-        _ => false,
-    }
-}
-
-const BOUNDS: &[(&str, &[u8], Kind, &[u8], Turn)] = &[
-    (
-        "below the second child's key",
-        INDEX,
-        Kind::Below,
-        b"f",
-        Turn::Down(3),
-    ),
-    ("up to it", INDEX, Kind::UpTo, b"f", Turn::Down(4)),
-    ("right behind it", INDEX, Kind::Below, b"f\0", Turn::Down(4)),
-    (
-        "up to the first child's key",
-        INDEX,
-        Kind::UpTo,
-        b"b",
-        Turn::Down(3),
-    ),
-    (
-        "below the beginning",
-        INDEX,
-        Kind::Below,
-        b"b",
-        Turn::Right(7),
-    ),
-    ("below the end", INDEX, Kind::Below, b"m", Turn::Down(4)),
-    ("up to the end", INDEX, Kind::UpTo, b"m", Turn::Right(7)),
-    (
-        "below more than the end",
-        INDEX,
-        Kind::Below,
-        b"m\0",
-        Turn::Right(7),
-    ),
-    (
-        "all, where more is to the right",
-        INDEX,
-        Kind::All,
-        b"",
-        Turn::Right(7),
-    ),
-    ("all, with no child", BARE, Kind::All, b"", Turn::Astray),
-    (
-        "below the end of a leaf",
-        LEAF,
-        Kind::Below,
-        b"m",
-        Turn::Here,
-    ),
-    (
-        "below the beginning of a leaf",
-        LEAF,
-        Kind::Below,
-        b"b",
-        Turn::Right(7),
-    ),
-    ("all, at the last leaf", LAST, Kind::All, b"", Turn::Here),
-    (
-        "below the beginning of the last leaf",
-        LAST,
-        Kind::Below,
-        b"b",
-        Turn::Astray,
-    ),
+const BOUNDS: &[Row] = &[
+    ("below the second child", INDEX, Below(b"f"), Down(3)),
+    ("up to it", INDEX, UpTo(b"f"), Down(4)),
+    ("right behind it", INDEX, Below(b"f\0"), Down(4)),
+    ("up to the first child", INDEX, UpTo(b"b"), Down(3)),
+    ("below the beginning", INDEX, Below(b"b"), Right(7)),
+    ("below the end", INDEX, Below(b"m"), Down(4)),
+    ("up to the end", INDEX, UpTo(b"m"), Right(7)),
+    ("below more than the end", INDEX, Below(b"m\0"), Right(7)),
+    ("all, where more is to the right", INDEX, Last, Right(7)),
+    ("all, with no child", BARE, Last, Astray),
+    ("below the end of a leaf", LEAF, Below(b"m"), Here),
+    ("below its beginning", LEAF, Below(b"b"), Right(7)),
+    ("all, at the last leaf", LAST, Last, Here),
+    ("below the last leaf's beginning", LAST, Below(b"b"), Astray),
     (
         "below a key with the prefix",
         UNDER_B,
-        Kind::Below,
-        b"bf",
-        Turn::Down(3),
+        Below(b"bf"),
+        Down(3),
     ),
-    (
-        "right behind it",
-        UNDER_B,
-        Kind::Below,
-        b"bf\0",
-        Turn::Down(4),
-    ),
+    ("right behind it", UNDER_B, Below(b"bf\0"), Down(4)),
     (
         "below an end with the prefix",
         UNDER_B,
-        Kind::Below,
-        b"bz",
-        Turn::Down(4),
+        Below(b"bz"),
+        Down(4),
     ),
 ];
 
+fn turn_of(alloc: Global, payload: &[u8], sought: Sought) -> Option<Turn> {
+    let node = node_of(alloc, payload)?;
+    let bound = match sought {
+        At(key) => return Some(route(&node, key)),
+        UpTo(key) => Bound::Included(IVec::from_slice(alloc, key).ok()?),
+        Below(key) => Bound::Excluded(IVec::from_slice(alloc, key).ok()?),
+        Last => Bound::Unbounded,
+    };
+    Some(route_before(&node, &bound))
+}
+
+// The name of the first row that is led elsewhere.
+fn led_elsewhere(alloc: Global, rows: &[Row]) -> Option<&'static str> {
+    for (name, payload, sought, turn) in rows {
+        if turn_of(alloc, payload, *sought) != Some(*turn) {
+            return Some(*name);
+        }
+    }
+    None
+}
+
+#[test]
+fn keys_are_led(rt: HostRuntime) {
+    assert_eq!(rt; led_elsewhere(rt.alloc(), KEYS), None);
+}
+
 #[test]
 fn keys_right_before_a_bound_are_led(rt: HostRuntime) {
-    for (row, payload, kind, key, turn) in BOUNDS {
-        assert!(rt;
-            leads_before(rt.alloc(), payload, *kind, key, *turn),
-            "{row}"
-        );
-    }
+    assert_eq!(rt; led_elsewhere(rt.alloc(), BOUNDS), None);
 }
 
 fn is_value(answer: Result<Option<IVec>, Error>, wanted: Option<&[u8]>) -> bool {
