@@ -20,6 +20,14 @@ use sled_node::Node;
 use sled_pagecache::{Error, Log, PageCache, PageId, sled_node};
 use sled_search::Turn;
 
+// The way of a key from the root of a map to its leaf, and the limits of the nodes there.
+#[derive(Clone, Copy)]
+struct Way<'a> {
+    root: PageId,
+    key: &'a [u8],
+    limits: Limits,
+}
+
 /// Merges `leaf`, in which `key` was, with a neighbour that has room for its pairs, if it has few pairs left. In that case, each index on the way to
 /// it that has few children is merged in the same way too. What can't be merged stays as it is, and no error is returned.
 pub fn merge_few<L: Log>(
@@ -31,37 +39,26 @@ pub fn merge_few<L: Log>(
 )
     ensures { Performs L.Log (Keeps (HasRoot root)) cache.old cache.new }
 {
-    let _ = merge_leaf(cache, root, leaf, key, limits); // a write error is kept, and the next call answers it
+    let _ = merge_leaf(cache, Way { root, key, limits }, leaf); // a write error is kept, and the next call answers it
 }
 
 // Merges what has few pairs, if the leaf does.
-fn merge_leaf<L: Log>(
-    cache: &mut PageCache<L>,
-    root: PageId,
-    leaf: PageId,
-    key: &[u8],
-    limits: Limits,
-) -> Result<(), Error>
-    ensures { Performs L.Log (Keeps (HasRoot root)) cache.old cache.new }
+fn merge_leaf<L: Log>(cache: &mut PageCache<L>, way: Way<'_>, leaf: PageId) -> Result<(), Error>
+    ensures { Performs L.Log (Keeps (HasRoot way.entry.root)) cache.old cache.new }
 {
     if !has_few(cache, leaf)? {
         return Ok(());
     }
-    merge_way(cache, root, key, limits)
+    merge_way(cache, way)
 }
 
-// Merges what has few pairs on the way to the leaf of the key.
-fn merge_way<L: Log>(
-    cache: &mut PageCache<L>,
-    root: PageId,
-    key: &[u8],
-    limits: Limits,
-) -> Result<(), Error>
-    ensures { Performs L.Log (Keeps (HasRoot root)) cache.old cache.new }
+// Merges what has few pairs on the way.
+fn merge_way<L: Log>(cache: &mut PageCache<L>, way: Way<'_>) -> Result<(), Error>
+    ensures { Performs L.Log (Keeps (HasRoot way.entry.root)) cache.old cache.new }
 {
-    let mut at = root;
+    let mut at = way.root;
     'turns: for _ in 0..MOST_TURNS {
-        match next_on(cache, root, at, key, limits)? {
+        match next_on(cache, way, at)? {
             Some(page) => at = page,
             None => return Ok(()),
         }
@@ -69,40 +66,32 @@ fn merge_way<L: Log>(
     Err(Error::Corruption(None))
 }
 
-// The page behind this one on the way to the leaf of the key, if it isn't that leaf. A child with few pairs is merged first.
+// The page behind this one on the way, if it isn't the leaf. A child with few pairs is merged first.
 fn next_on<L: Log>(
     cache: &mut PageCache<L>,
-    root: PageId,
+    way: Way<'_>,
     at: PageId,
-    key: &[u8],
-    limits: Limits,
 ) -> Result<Option<PageId>, Error>
-    ensures { Performs L.Log (Keeps (HasRoot root)) cache.old cache.new }
+    ensures { Performs L.Log (Keeps (HasRoot way.entry.root)) cache.old cache.new }
 {
-    merge_below(cache, root, at, key, limits)?;
-    match turn_at(cache, at, key)? {
+    merge_below(cache, way, at)?;
+    match turn_at(cache, at, way.key)? {
         Turn::Down(page) | Turn::Right(page) => Ok(Some(page)),
         _ => Ok(None),
     }
 }
 
 // Merges the child to which the page leads the key, if that has few pairs.
-fn merge_below<L: Log>(
-    cache: &mut PageCache<L>,
-    root: PageId,
-    above: PageId,
-    key: &[u8],
-    limits: Limits,
-) -> Result<(), Error>
-    ensures { Performs L.Log (Keeps (HasRoot root)) cache.old cache.new }
+fn merge_below<L: Log>(cache: &mut PageCache<L>, way: Way<'_>, above: PageId) -> Result<(), Error>
+    ensures { Performs L.Log (Keeps (HasRoot way.entry.root)) cache.old cache.new }
 {
-    let Turn::Down(child) = turn_at(cache, above, key)? else {
+    let Turn::Down(child) = turn_at(cache, above, way.key)? else {
         return Ok(());
     };
     if !has_few(cache, child)? {
         return Ok(());
     }
-    merge_child(cache, root, above, key, limits)
+    merge_child(cache, way, above)
 }
 
 // Whether the node of the page has few pairs.
@@ -116,19 +105,13 @@ fn has_few<L: Log>(cache: &mut PageCache<L>, pid: PageId) -> Result<bool, Error>
     }
 }
 
-// Merges the child of a key with its left neighbour, or else with its right one, if the index above leads to one and they are few enough.
-fn merge_child<L: Log>(
-    cache: &mut PageCache<L>,
-    root: PageId,
-    above: PageId,
-    key: &[u8],
-    limits: Limits,
-) -> Result<(), Error>
-    ensures { Performs L.Log (Keeps (HasRoot root)) cache.old cache.new }
+// Merges the child of the key with its left neighbour, or else with its right one, if the index above leads to one and they are few enough.
+fn merge_child<L: Log>(cache: &mut PageCache<L>, way: Way<'_>, above: PageId) -> Result<(), Error>
+    ensures { Performs L.Log (Keeps (HasRoot way.entry.root)) cache.old cache.new }
 {
-    let Sides { before, behind } = sides_at(cache, above, key)?;
-    if !merge(cache, root, above, before, limits)? {
-        merge(cache, root, above, behind, limits)?;
+    let Sides { before, behind } = sides_at(cache, above, way.key)?;
+    if !merge(cache, way.root, above, before, way.limits)? {
+        merge(cache, way.root, above, behind, way.limits)?;
     }
     Ok(())
 }

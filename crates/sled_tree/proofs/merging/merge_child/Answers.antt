@@ -17,9 +17,9 @@ returns-in_err-merge-2 g c = keeps-and g.L.Log (keeps-and g.L.Log (reads-keep g.
 pub returns : goal.returns
 returns g c =
     let old = c.args.cache.now in
-    let first : Performs g.L.Log (Keeps (HasRoot c.args.root)) old c.merge.new.cache =
-    keeps-and g.L.Log {If = λ w. HasTree w.maps c.args.root} (reads-keep g.L.Log c.sides_at.ensures) c.merge.ensures in
+    let first : Performs g.L.Log (Keeps (HasRoot c.args.way.root)) old c.merge.new.cache =
+    keeps-and g.L.Log {If = λ w. HasTree w.maps c.args.way.root} (reads-keep g.L.Log c.sides_at.ensures) c.merge.ensures in
     elim c.if-not-branch.branch [
-      | then-not-branch+in_ok-merge-2 w ↦ subst (λ (cache : Cache g.row.L.Denot). Performs g.L.Log (Keeps (HasRoot c.args.root)) old cache) (sym w.cache-is) (keeps-and g.L.Log first w.merge-then-not-branch.ensures)
-      | else-not-branch w ↦ subst (λ (cache : Cache g.row.L.Denot). Performs g.L.Log (Keeps (HasRoot c.args.root)) old cache) (sym w.cache-is) first
+      | then-not-branch+in_ok-merge-2 w ↦ subst (λ (cache : Cache g.row.L.Denot). Performs g.L.Log (Keeps (HasRoot c.args.way.root)) old cache) (sym w.cache-is) (keeps-and g.L.Log first w.merge-then-not-branch.ensures)
+      | else-not-branch w ↦ subst (λ (cache : Cache g.row.L.Denot). Performs g.L.Log (Keeps (HasRoot c.args.way.root)) old cache) (sym w.cache-is) first
     ]

@@ -5,4 +5,4 @@ use Rattle.sled_tree.proofs.merging.merge_way.Given as goal
 
 -- the maps are those that they were
 abbrev pub invariant-turns : goal.invariant-turns
-invariant-turns g l = Performs g.L.Log (Keeps (HasRoot l.root)) l.initial.cache l.cache
+invariant-turns g l = Performs g.L.Log (Keeps (HasRoot l.way.root)) l.initial.cache l.cache
