@@ -14,6 +14,9 @@ use Rattle.sled_search.proofs.Pairs.{eq-same, eq-other, same_or_not, all-above}
 use Rattle.sled_search.proofs.Same.{none-above}
 use Rattle.sled_tree.proofs.OrderedLists.{keep, at-keep, ascending-kept, is-below, below-is, not-below}
 use Rattle.sled_tree.specs.Ordered.{is_behind, behind, before, first_of, last_of}
+use Rattle.sled_tree.specs.OrderedLeaves.{IsNextTo, next_of}
+use Rattle.sled_tree.specs.declared.neighbours.Side.{Side}
+use Rattle.sled_tree.specs.declared.neighbours.Side.TheVariants.{Above, Below}
 
 -- ---- a key is on a side of a bound where the test says so
 
@@ -98,7 +101,7 @@ as-one a b le le' = by (same_or_not a b)
     by (inr other) = absurd (le' (below_or_same a b le other))
 
 module _ (bound : Bound Bytes) (m : Map) (up : IsAscending m) where
-  pub first-is : (answer : Option (Bytes × Bytes)) → IsNextAbove m bound answer → answer ≡ first_of (behind bound m)
+  first-is : (answer : Option (Bytes × Bytes)) → IsNextAbove m bound answer → answer ≡ first_of (behind bound m)
   first-is answer is = by (behind bound m) (ascending-kept (is_behind bound) m up) (kept-is (is_behind bound) m) (is-kept (is_behind bound) m) answer is
     where
       by : (ys : Map) → IsAscending ys → ((key value : Bytes) → at_key ys key ≡ Some value → (is_behind bound key ≡ true) × (at_key m key ≡ Some value))
@@ -112,7 +115,7 @@ module _ (bound : Bound Bytes) (m : Map) (up : IsAscending m) where
           let le' = from-first y ys pair.0 pair.1 rise (into pair.0 pair.1 ((behind-says bound pair.0).0 is.1) is.0) in
           same-key m pair y (as-one pair.0 y.0 le le') is.0 has.1
 
-  pub last-is : (answer : Option (Bytes × Bytes)) → IsNextBelow m bound answer → answer ≡ last_of (before bound m)
+  last-is : (answer : Option (Bytes × Bytes)) → IsNextBelow m bound answer → answer ≡ last_of (before bound m)
   last-is answer is = by (before bound m) (ascending-kept (is_before bound) m up) (kept-is (is_before bound) m) (is-kept (is_before bound) m) answer is
     where
       by : (ys : Map) → IsAscending ys → ((key value : Bytes) → at_key ys key ≡ Some value → (is_before bound key ≡ true) × (at_key m key ≡ Some value))
@@ -126,3 +129,7 @@ module _ (bound : Bound Bytes) (m : Map) (up : IsAscending m) where
           let le = is.2 z.0 z.1 has.1 ((before-says bound z.0).1 has.0) in
           let le' = it.most pair.0 pair.1 (into pair.0 pair.1 ((before-says bound pair.0).0 is.1) is.0) in
           same-key m pair z (as-one pair.0 z.0 le' le) is.0 has.1 ∙ sym it.last
+
+  pub next-is : (side : Side) (answer : Option (Bytes × Bytes)) → IsNextTo side m bound answer → answer ≡ next_of side bound m
+  next-is Above = first-is
+  next-is Below = last-is

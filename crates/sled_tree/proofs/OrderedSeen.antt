@@ -2,7 +2,7 @@
 use Rattle.std.proofs.Common.{◌≡◌, ◌≢◌, ◌⊎◌, inl, inr, ℕ, false, List, [], ◌++◌, Option, None, Some, slice_get, refl, sym, ◌∙◌, ap, subst}
 use Rattle.std.specs.Global.{Vec}
 use Rattle.std.specs.declared.ops.Bound.{Bound}
-use Rattle.std.specs.declared.ops.Bound.TheVariants.{Included, Excluded}
+use Rattle.std.specs.declared.ops.Bound.TheVariants.{Included}
 use Rattle.std.proofs.lemmas.List.{append-nil}
 use Rattle.sled_base.specs.Order.{Bytes, IsBelow}
 use Rattle.sled_base.specs.OrderLaws.{below_trans}
@@ -19,9 +19,11 @@ use Rattle.sled_search.proofs.Changes.{leaf-has}
 use Rattle.sled_search.proofs.Search.{leaf-there, one_node}
 use Rattle.sled_search.proofs.Separated.{never-below}
 use Rattle.sled_tree.specs.Ordered.{within, IsPieceOf}
-use Rattle.sled_tree.specs.OrderedLeaves.{as_items, ComesBefore, ShowsAbove, ShowsBelow, IsNearAbove, IsNearBelow, SeesAbove, SeesBelow, ShowsWithin, IsPartOf}
+use Rattle.sled_tree.specs.OrderedLeaves.{as_items, ComesBefore, ShowsAbove, ShowsBelow, IsNear, SeesNear, ShowsWithin, IsPartOf}
 use Rattle.sled_tree.specs.declared.neighbours.Near.{Near}
 use Rattle.sled_tree.specs.declared.neighbours.Near.TheVariants.{Pair, Further, Nothing}
+use Rattle.sled_tree.specs.declared.neighbours.Side.{Side}
+use Rattle.sled_tree.specs.declared.neighbours.Side.TheVariants.{Above, Below}
 use Rattle.sled_tree.specs.declared.neighbours.pieces.LeafPart.{LeafPart}
 use Rattle.sled_tree.specs.declared.neighbours.pieces.Piece.{Piece}
 use Rattle.sled_tree.proofs.OrderedPieces.{end_of, leaf-pairs, same-items, within-items, piece-ends, piece-goes-on, none-past}
@@ -29,19 +31,19 @@ use Rattle.sled_tree.proofs.OrderedPieces.{end_of, leaf-pairs, same-items, withi
 -- ---- the pair next to a bound
 
 module _ (pages : List Content) (root : ℕ) (m : Map) (tree : IsTreeOf pages root m) (bound : Bound Bytes) (leaf : ℕ) where
-  pub near-above : ComesToLeafOf pages (start_of bound) (start_of bound) leaf root → (near : Near) → HasNodeAt pages leaf (ShowsAbove bound near) → IsNearAbove m bound near
+  pub near-above : ComesToLeafOf pages (start_of bound) (start_of bound) leaf root → (near : Near) → HasNodeAt pages leaf (ShowsAbove bound near) → IsNear Above m bound near
   near-above comes (Pair pair) (n, there, (well, least)) = first-here pages root m tree bound leaf comes n there well pair least
-  near-above comes (Further end) (n, there, (none, is, some)) = λ answer next.
-      first-further pages root m tree bound leaf comes n there none (λ e. some (sym is ∙ e)) answer (subst (λ (key : Bytes). IsNextAbove m (Included key) answer) (sym is) next)
+  near-above comes (Further next) (n, there, (none, is, some)) = λ answer found.
+      first-further pages root m tree bound leaf comes n there none some answer (subst (λ (at : Bound Bytes). IsNextAbove m at answer) is found)
   near-above comes Nothing (n, there, (none, is)) = none-at-end pages root m tree bound leaf comes n there none is
 
-  pub near-below : IsBefore bound [] → ComesBefore pages root bound leaf → (near : Near) → HasNodeAt pages leaf (ShowsBelow bound near) → IsNearBelow m bound near
+  pub near-below : IsBefore bound [] → ComesBefore pages root bound leaf → (near : Near) → HasNodeAt pages leaf (ShowsBelow bound near) → IsNear Below m bound near
   near-below first (turns, goes, (n, there, is)) near (k, at, shows) = by near (subst (λ (w : WholeNode). ShowsBelow bound near w) (one_node pages leaf n k there at) shows)
     where
-      by : (near : Near) → ShowsBelow bound near n → IsNearBelow m bound near
+      by : (near : Near) → ShowsBelow bound near n → IsNear Below m bound near
       by (Pair pair) (well, greatest) = last-here pages root m tree bound first turns leaf goes n there is.0 is.1 well pair greatest
-      by (Further start) (none, same) = λ answer next.
-          last-further pages root m tree bound first turns leaf goes n there is.0 is.1 none answer (subst (λ (key : Bytes). IsNextBelow m (Excluded key) answer) (sym same) next)
+      by (Further next) (none, same) = λ answer found.
+          last-further pages root m tree bound first turns leaf goes n there is.0 is.1 none answer (subst (λ (at : Bound Bytes). IsNextBelow m at answer) same found)
       by Nothing shows = absurd shows
 
 -- a bound before which no key may be
@@ -49,23 +51,13 @@ pub none-below : (m : Map) (bound : Bound Bytes) → (IsBefore bound [] → ⊥)
 none-below m bound never key value is before = never (before-down bound key [] before (never-below key))
 
 -- where to look further, and what is there
-above-further : (m : Map) (bound : Bound Bytes) (end : Bytes) → IsNearAbove m bound (Further end) → (near : Near) → IsNearAbove m (Included end) near → IsNearAbove m bound near
-above-further m bound end further (Pair pair) next = further (Some pair) next
-above-further m bound end further (Further other) next = λ answer h. further answer (next answer h)
-above-further m bound end further Nothing next = further None next
+further : (side : Side) (m : Map) (bound next : Bound Bytes) → IsNear side m bound (Further next) → (near : Near) → IsNear side m next near → IsNear side m bound near
+further side m bound next so (Pair pair) is = so (Some pair) is
+further side m bound next so (Further other) is = λ answer found. so answer (is answer found)
+further side m bound next so Nothing is = so None is
 
-pub above-on : (root : ℕ) (bound : Bound Bytes) (seen near : Near) (end : Bytes) → seen ≡ Further end → (pages : List Content) → SeesAbove root bound pages seen
-    → SeesAbove root (Included end) pages near → SeesAbove root bound pages near
-above-on root bound seen near end is pages so_far next = λ m tree. above-further m bound end (subst (λ (n : Near). IsNearAbove m bound n) is (so_far m tree)) near (next m tree)
-
-below-further : (m : Map) (bound : Bound Bytes) (start : Bytes) → IsNearBelow m bound (Further start) → (near : Near) → IsNearBelow m (Excluded start) near → IsNearBelow m bound near
-below-further m bound start further (Pair pair) next = further (Some pair) next
-below-further m bound start further (Further other) next = λ answer h. further answer (next answer h)
-below-further m bound start further Nothing next = further None next
-
-pub below-on : (root : ℕ) (bound : Bound Bytes) (seen near : Near) (start : Bytes) → seen ≡ Further start → (pages : List Content) → SeesBelow root bound pages seen
-    → SeesBelow root (Excluded start) pages near → SeesBelow root bound pages near
-below-on root bound seen near start is pages so_far next = λ m tree. below-further m bound start (subst (λ (n : Near). IsNearBelow m bound n) is (so_far m tree)) near (next m tree)
+pub near-on : (side : Side) (root : ℕ) (bound next : Bound Bytes) (seen near : Near) → seen ≡ Further next → (pages : List Content) → SeesNear side root bound pages seen → SeesNear side root next pages near → SeesNear side root bound pages near
+near-on side root bound next seen near is pages so_far then' = λ m tree. further side m bound next (subst (λ (n : Near). IsNear side m bound n) is (so_far m tree)) near (then' m tree)
 
 -- ---- the pairs within two bounds
 

@@ -9,9 +9,11 @@ use Rattle.sled_node.specs.Node.{WholeNode, Item, Value, IsWellFormed}
 use Rattle.sled_search.specs.Map.{Map}
 use Rattle.sled_search.specs.Ordered.{IsNextAbove, IsNextBelow, IsLeafBefore, GoesBefore, start_of}
 use Rattle.sled_search.specs.Search.{HasNodeAt, ComesToLeafOf, IsTreeOf}
-use Rattle.sled_tree.specs.Ordered.{behind, within}
+use Rattle.sled_tree.specs.Ordered.{behind, before, within, first_of, last_of}
 use Rattle.sled_tree.specs.declared.neighbours.Near.{Near}
 use Rattle.sled_tree.specs.declared.neighbours.Near.TheVariants.{Pair, Further, Nothing}
+use Rattle.sled_tree.specs.declared.neighbours.Side.{Side}
+use Rattle.sled_tree.specs.declared.neighbours.Side.TheVariants.{Above, Below}
 use Rattle.sled_tree.specs.declared.neighbours.count.Part.{Part}
 use Rattle.sled_tree.specs.declared.neighbours.pieces.LeafPart.{LeafPart}
 
@@ -21,35 +23,41 @@ ComesBefore pages root bound leaf = (turns : ℕ) × GoesBefore pages bound turn
 
 -- ---- the pair next to a bound
 
--- the first pair of a leaf after a bound; or the leaf has none, and ends here
+-- the pair of the map on a side of the bound that is next to it
+abbrev pub IsNextTo : Side → Map → Bound Bytes → Option (Bytes × Bytes) → Type 0
+IsNextTo Above m bound answer = IsNextAbove m bound answer
+IsNextTo Below m bound answer = IsNextBelow m bound answer
+
+-- the same pair, of the pairs on that side
+abbrev pub next_of : Side → Bound Bytes → Map → Option (Bytes × Bytes)
+next_of Above bound m = first_of (behind bound m)
+next_of Below bound m = last_of (before bound m)
+
+-- the first pair of a leaf after a bound; or the leaf has none, and its end is where to look further
 abbrev pub ShowsAbove : Bound Bytes → Near → WholeNode → Type 0
 ShowsAbove bound (Pair pair) n = IsWellFormed n × IsLeast (IsBehind bound) n pair
-ShowsAbove bound (Further end) n = HasNone (IsBehind bound) n × (n.hi ≡ end) × (end ≢ [])
+ShowsAbove bound (Further next) n = HasNone (IsBehind bound) n × (next ≡ Included n.hi) × (n.hi ≢ [])
 ShowsAbove bound Nothing n = HasNone (IsBehind bound) n × (n.hi ≡ [])
 
--- the last pair of a leaf before a bound; or the leaf has none, and begins here
+-- the last pair of a leaf before a bound; or the leaf has none, and its beginning is where to look further
 abbrev pub ShowsBelow : Bound Bytes → Near → WholeNode → Type 0
 ShowsBelow bound (Pair pair) n = IsWellFormed n × IsGreatest (IsBefore bound) n pair
-ShowsBelow bound (Further start) n = HasNone (IsBefore bound) n × (n.lo ≡ start)
+ShowsBelow bound (Further next) n = HasNone (IsBefore bound) n × (next ≡ Excluded n.lo)
 ShowsBelow bound Nothing n = ⊥
 
--- the same for the map: the pair; or another bound, next to which the pair is
-abbrev pub IsNearAbove : Map → Bound Bytes → Near → Type 0
-IsNearAbove m bound (Pair pair) = IsNextAbove m bound (Some pair)
-IsNearAbove m bound (Further end) = (answer : Option (Bytes × Bytes)) → IsNextAbove m (Included end) answer → IsNextAbove m bound answer
-IsNearAbove m bound Nothing = IsNextAbove m bound None
+abbrev pub ShowsNear : Side → Bound Bytes → Near → WholeNode → Type 0
+ShowsNear Above bound near n = ShowsAbove bound near n
+ShowsNear Below bound near n = ShowsBelow bound near n
 
-abbrev pub IsNearBelow : Map → Bound Bytes → Near → Type 0
-IsNearBelow m bound (Pair pair) = IsNextBelow m bound (Some pair)
-IsNearBelow m bound (Further start) = (answer : Option (Bytes × Bytes)) → IsNextBelow m (Excluded start) answer → IsNextBelow m bound answer
-IsNearBelow m bound Nothing = IsNextBelow m bound None
+-- the same for the map: the pair; or another bound, next to which the pair is
+abbrev pub IsNear : Side → Map → Bound Bytes → Near → Type 0
+IsNear side m bound (Pair pair) = IsNextTo side m bound (Some pair)
+IsNear side m bound (Further next) = (answer : Option (Bytes × Bytes)) → IsNextTo side m next answer → IsNextTo side m bound answer
+IsNear side m bound Nothing = IsNextTo side m bound None
 
 -- the same for whichever map the tree is
-abbrev pub SeesAbove : ℕ → Bound Bytes → List Content → Near → Type 0
-SeesAbove root bound pages near = (m : Map) → IsTreeOf pages root m → IsNearAbove m bound near
-
-abbrev pub SeesBelow : ℕ → Bound Bytes → List Content → Near → Type 0
-SeesBelow root bound pages near = (m : Map) → IsTreeOf pages root m → IsNearBelow m bound near
+abbrev pub SeesNear : Side → ℕ → Bound Bytes → List Content → Near → Type 0
+SeesNear side root bound pages near = (m : Map) → IsTreeOf pages root m → IsNear side m bound near
 
 -- ---- the pairs within two bounds
 

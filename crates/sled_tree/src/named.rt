@@ -16,6 +16,7 @@ ghost use Rattle.sled_tree.specs.declared.error.TreeError.TheVariants.{KeyTooLon
 
 pub use crate::maps::names::drop_tree;
 use crate::maps::{names, ordered, values};
+use crate::neighbours::Side;
 use crate::{Error, IVec, Limits, Log, PageCache, Piece, Tree, TreeError, Why};
 use sled_pagecache::sled_node::node::MAX_BYTES;
 use std::alloc::Global;
@@ -224,7 +225,7 @@ pub fn next_above<L: Log>(
     ensures errors { IfErr result IsOfCache }
 {
     match names::get_tree(cache, name)? {
-        Some(tree) => ordered::next_above(cache, tree, bound),
+        Some(tree) => ordered::next_to(cache, tree, Side::Above, bound),
         None => Ok(None),
     }
 }
@@ -240,7 +241,7 @@ pub fn next_below<L: Log>(
     ensures errors { IfErr result IsOfCache }
 {
     match names::get_tree(cache, name)? {
-        Some(tree) => ordered::next_below(cache, tree, bound),
+        Some(tree) => ordered::next_to(cache, tree, Side::Below, bound),
         None => Ok(None),
     }
 }

@@ -3,12 +3,13 @@
 ghost use Rattle.std.specs.Prelude.{◌≡◌, IfErr, length};
 ghost use Rattle.sled_tree.specs.Errors.{IsOfCache};
 ghost use Rattle.sled_tree.specs.Maps.{ReadsMap};
-ghost use Rattle.sled_tree.specs.Ordered.{behind, before, first_of, last_of, IsPieceOf};
+ghost use Rattle.sled_tree.specs.Ordered.{first_of, last_of, IsPieceOf};
+ghost use Rattle.sled_tree.specs.OrderedLeaves.{next_of};
 
 use crate::error::TreeError;
 use crate::neighbours::count::count_all;
 use crate::neighbours::pieces::{Piece, pairs_within};
-use crate::neighbours::{above, below};
+use crate::neighbours::{Side, nearest};
 use crate::trees::Tree;
 use sled_pagecache::{IVec, Log, PageCache};
 use std::alloc::Global;
@@ -22,7 +23,7 @@ pub fn first<L: Log>(
     ensures pair { ReadsMap L.Log tree (λ m answer. answer ≡ first_of m) result cache.old cache.new }
     ensures errors { IfErr result IsOfCache }
 {
-    next_above(cache, tree, &Bound::Unbounded)
+    next_to(cache, tree, Side::Above, &Bound::Unbounded)
 }
 
 /// Returns the pair with the greatest key, if there is any.
@@ -30,31 +31,20 @@ pub fn last<L: Log>(cache: &mut PageCache<L>, tree: Tree) -> Result<Option<(IVec
     ensures pair { ReadsMap L.Log tree (λ m answer. answer ≡ last_of m) result cache.old cache.new }
     ensures errors { IfErr result IsOfCache }
 {
-    next_below(cache, tree, &Bound::Unbounded)
+    next_to(cache, tree, Side::Below, &Bound::Unbounded)
 }
 
-/// Returns the first pair after the bound, if there is one.
-pub fn next_above<L: Log>(
+/// Returns the pair next to the bound on this side of it, if there is one.
+pub fn next_to<L: Log>(
     cache: &mut PageCache<L>,
     tree: Tree,
+    side: Side,
     bound: &Bound<IVec>,
 ) -> Result<Option<(IVec, IVec)>, TreeError>
-    ensures pair { ReadsMap L.Log tree (λ m answer. answer ≡ first_of (behind bound.now m)) result cache.old cache.new }
+    ensures pair { ReadsMap L.Log tree (λ m answer. answer ≡ next_of side bound.now m) result cache.old cache.new }
     ensures errors { IfErr result IsOfCache }
 {
-    Ok(above::next_above(cache, tree.root, bound)?)
-}
-
-/// Returns the last pair before the bound, if there is one.
-pub fn next_below<L: Log>(
-    cache: &mut PageCache<L>,
-    tree: Tree,
-    bound: &Bound<IVec>,
-) -> Result<Option<(IVec, IVec)>, TreeError>
-    ensures pair { ReadsMap L.Log tree (λ m answer. answer ≡ last_of (before bound.now m)) result cache.old cache.new }
-    ensures errors { IfErr result IsOfCache }
-{
-    Ok(below::next_below(cache, tree.root, bound)?)
+    Ok(nearest::next_to(cache, tree.root, side, bound)?)
 }
 
 /// Returns the first pairs within two bounds, those that one leaf has, and the key from which the others begin.

@@ -8,6 +8,7 @@ ghost use Rattle.sled_tree.specs.Ordered.{behind, before, first_of, last_of, IsP
 use super::{Tree, Trees};
 use crate::error::TreeError;
 use crate::maps::ordered;
+use crate::neighbours::Side;
 use crate::neighbours::pieces::Piece;
 use sled_pagecache::{IVec, Log};
 use std::ops::Bound;
@@ -40,7 +41,7 @@ impl<L: Log> Trees<L> {
         ensures pair { ReadsMap L.Log tree (λ m answer. answer ≡ first_of (behind bound.now m)) result self.old self.new }
         ensures errors { IfErr result IsOfCache }
     {
-        ordered::next_above(&mut self.cache, tree, bound)
+        ordered::next_to(&mut self.cache, tree, Side::Above, bound)
     }
 
     /// Returns the last pair before the bound, or `None` if there is none.
@@ -54,7 +55,7 @@ impl<L: Log> Trees<L> {
         ensures pair { ReadsMap L.Log tree (λ m answer. answer ≡ last_of (before bound.now m)) result self.old self.new }
         ensures errors { IfErr result IsOfCache }
     {
-        ordered::next_below(&mut self.cache, tree, bound)
+        ordered::next_to(&mut self.cache, tree, Side::Below, bound)
     }
 
     /// Returns the first pairs after `from` and before `to`, in key order: those that one leaf has, and the key from which the others begin, if there

@@ -11,4 +11,4 @@ pub returns-in-Some-clause-pair : goal.returns-in-Some-clause-pair
 returns-in-Some-clause-pair g c =
     let here = c.args.cache.now in
     let found : Performs g.L.Log (Reads {E = TreeError} (Ok (Some c.in-Some.tree)) (IsMapOf c.args.name.now)) here here = rw c.in-Some.is at c.in_ok-tree.ensures.map in
-    reads-found g.L.Log c.args.name.now {E = TreeError} (λ m pair. pair ≡ last_of (before c.args.bound.now m)) c.in-Some.tree c.next_below.result here c.next_below.new.cache found c.next_below.ensures.pair
+    reads-found g.L.Log c.args.name.now {E = TreeError} (λ m pair. pair ≡ last_of (before c.args.bound.now m)) c.in-Some.tree c.next_to.result here c.next_to.new.cache found c.next_to.ensures.pair

@@ -6,4 +6,4 @@ use Rattle.sled_tree.proofs.OrderedReads.{reads-more}
 use Rattle.sled_tree.proofs.maps.ordered.last.Goals as goal
 
 pub returns-clause-pair : goal.returns-clause-pair
-returns-clause-pair g c = reads-more g.L.Log (λ pages answer is m tree. is m tree ∙ ap (λ (m : Map). last_of m) (keep-always m)) c.next_below.ensures.pair
+returns-clause-pair g c = reads-more g.L.Log (λ pages answer is m tree. is m tree ∙ ap (λ (m : Map). last_of m) (keep-always m)) c.next_to.ensures.pair

@@ -3,7 +3,7 @@ use Rattle.sled_node.specs.Neighbours.{IsBefore}
 use Rattle.sled_tree.proofs.OrderedReads.{read-ends, read-first, read-then}
 use Rattle.sled_tree.proofs.OrderedSeen.{near-below, none-below}
 use Rattle.sled_tree.proofs.Performing.{nothing}
-use Rattle.sled_tree.proofs.neighbours.below.near_below.Goals as goal
+use Rattle.sled_tree.proofs.neighbours.nearest.near_below.Goals as goal
 
 pub returns : goal.returns
 returns g c =

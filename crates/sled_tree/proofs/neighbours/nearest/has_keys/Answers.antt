@@ -4,7 +4,7 @@ use Rattle.std.specs.declared.ops.Bound.TheVariants.{Included, Unbounded}
 use Rattle.sled_base.specs.Order.{Bytes}
 use Rattle.sled_node.specs.Neighbours.{IsBefore}
 use Rattle.sled_search.proofs.Separated.{never-below}
-use Rattle.sled_tree.proofs.neighbours.below.has_keys.Goals as goal
+use Rattle.sled_tree.proofs.neighbours.nearest.has_keys.Goals as goal
 
 least-before : (bound : Bound Bytes) → ((key : Bytes) × (bound ≡ Included key)) ⊎ (bound ≡ Unbounded) → IsBefore bound []
 least-before bound (inl (key, is)) = rw is (never-below key)

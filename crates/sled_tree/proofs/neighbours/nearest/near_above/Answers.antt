@@ -1,6 +1,6 @@
 use Rattle.sled_tree.proofs.OrderedReads.{read-first, read-then}
 use Rattle.sled_tree.proofs.OrderedSeen.{near-above}
-use Rattle.sled_tree.proofs.neighbours.above.near_above.Goals as goal
+use Rattle.sled_tree.proofs.neighbours.nearest.near_above.Goals as goal
 
 pub returns : goal.returns
 returns g c =

@@ -1,8 +1,0 @@
-use Rattle.sled_tree.specs.OrderedLeaves.{SeesAbove}
-use Rattle.sled_tree.specs.Performs.{Performs}
-use Rattle.sled_tree.proofs.Performing.{On}
-use Rattle.sled_tree.proofs.neighbours.above.next_above.Given as goal
-
--- nothing was done but looks, and what was seen last is of the bound
-abbrev pub invariant-leaves : goal.invariant-leaves
-invariant-leaves g l = Performs g.L.Log (On (λ pages. SeesAbove l.root l.bound pages l.near)) l.fn.cache l.cache
