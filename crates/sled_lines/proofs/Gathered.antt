@@ -1,5 +1,5 @@
 -- Texts that are gathered one behind another, and written where room lacks.
-use Rattle.std.proofs.Common.{◌≡◌, [], ◌++◌, Option, Result, Ok, Err, IsErr, sym, ap, ◌∙◌, subst, append_assoc, append-nil}
+use Rattle.std.proofs.Common.{◌≡◌, ℕ, [], ◌++◌, Option, Result, Ok, Err, IsErr, take, drop, take-append-drop, refl, sym, ap, ◌∙◌, subst, append_assoc, append-nil}
 use Rattle.std.proofs.KnownBytes.{Appends-nil, Appends-trans}
 use Rattle.sled_base.specs.Order.{Bytes}
 use Rattle.sled_lines.specs.Output.{AppendsPrefix, Gathered, Gathers}
@@ -41,3 +41,23 @@ gathers_stops a b p q (Err x) text rest whole failed now e =
 -- a text behind one that was put
 pub put_on : (p x q y r : Bytes) → q ≡ p ++ x → r ≡ q ++ y → r ≡ p ++ (x ++ y)
 put_on p x q y r e f = f ∙ ap (λ l. l ++ y) e ∙ append_assoc p x y
+
+-- ---- a byte string that is encoded part by part
+
+module _ (encoded : Bytes → Bytes) (joined : (x y : Bytes) → encoded (x ++ y) ≡ encoded x ++ encoded y) where
+  -- what is no longer left of it was gathered
+  abbrev pub IsGatheredBefore : Bytes → Bytes → Option Bytes → Option Bytes → Bytes → Bytes → Type 0
+  IsGatheredBefore bytes left a b p q = (done : Bytes) × (bytes ≡ done ++ left) × Gathered a b p q (encoded done)
+
+  -- one more part was put, behind room that was made for it
+  pub part_put : (bytes left part rest : Bytes) (count : ℕ) (a b c : Option Bytes) (p q r s : Bytes) → IsGatheredBefore bytes left a b p q → part ≡ take count left → rest ≡ drop count left → Gathered b c q r [] → s ≡ r ++ encoded part → IsGatheredBefore bytes rest a c p s
+  part_put bytes left part rest count a b c p q r s (done, split, gathered) front back room put = (
+    done ++ part,
+    split ∙ ap (λ l. done ++ l) (sym (ap (λ l. l ++ rest) front ∙ ap (λ l. take count left ++ l) back ∙ take-append-drop count left)) ∙ sym (append_assoc done part rest),
+    subst (Gathered a c p s) (sym (joined done part)) (gathered_more a b c p q s (encoded done) (encoded part) gathered (gathered_put b c q r s [] (encoded part) room put)),
+  )
+
+  -- no room was made: nothing of what is left is there
+  pub part_stops : {T E : Type 0} (bytes left : Bytes) (a b c : Option Bytes) (p q r : Bytes) (result : Result T E) → IsGatheredBefore bytes left a b p q → IsErr result → AppendsPrefix b c (q ++ []) → Gathers a c p r result (encoded bytes)
+  part_stops bytes left a b c p q r result (done, split, gathered) failed now =
+      gathers_more a b c p q r result (encoded done) (encoded left) (encoded bytes) gathered (gathers_stops b c q r result [] (encoded left) (encoded left) failed now refl) (ap encoded split ∙ joined done left)
