@@ -4,7 +4,7 @@
 //! - `opening`: opening a cache in memory, closing a handle, and the texts of statuses
 //! - `file`: opening a cache over a file
 //! - `rewriting`: rewriting a cache into another log
-//! - `device`, `pages`, `roots`, `maps`, `batches`, `log`: as in `through`
+//! - `device`, `pages`, `roots`, `maps`, `batches`, `log`, `sizes`: as in `through`
 
 // Makes a call on the store behind a handle. A closed one has none.
 macro_rules! behind {
@@ -28,3 +28,4 @@ mod opening;
 mod pages;
 mod rewriting;
 mod roots;
+mod sizes;

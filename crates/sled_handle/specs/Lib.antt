@@ -5,6 +5,7 @@ pub mod Pairs
 pub mod Found
 pub mod Values
 pub mod Steps
+pub mod PageSizes
 pub mod MapCalls
 pub mod Handles
 pub mod Unseen

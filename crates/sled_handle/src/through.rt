@@ -4,7 +4,7 @@
 //! a write or a sync of the file failed; `NEEDS` if bytes of the file are needed first; and `NOT_OVER_FILE` if the call isn't available over a file.
 //!
 //! - `opening`: opening a cache over a file, or its log alone
-//! - `pages`, `roots`, `batches`, `log`, `maps`: as in `calls`
+//! - `pages`, `roots`, `batches`, `log`, `sizes`, `maps`: as in `calls`
 //! - `device`: what the disk of a file needs, and what it is given
 //! - `rewriting`: rewriting a cache into another log
 
@@ -44,3 +44,4 @@ pub mod opening;
 pub mod pages;
 pub mod rewriting;
 pub mod roots;
+pub mod sizes;
