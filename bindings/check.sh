@@ -55,6 +55,8 @@ compile rewriting_damaged "$here/c/steps.c" "$here/c/by_hand.c" "$here/c/failing
 "$out/rewriting_damaged" "$quick"
 compile sizes "$here/c/steps.c" "$here/c/failing.c" "$out/dilluvas_file.c" "$failing"
 "$out/sizes" "$files"
+compile amplification "$here/c/steps.c" "$here/c/failing.c" "$out/dilluvas_file.c" "$failing"
+"$out/amplification" "$quick"
 compile meanwhile "$here/c/steps.c" "$here/c/failing.c" "$out/dilluvas_file.c" "$failing,--wrap=open"
 "$out/meanwhile" "$files"
 compile paths "$out/dilluvas_file.c" -Wl,--wrap=pread,--wrap=fdatasync,--wrap=fsync
@@ -74,7 +76,7 @@ awk -v seed=1 -v lines=300 -v parts=1 -v name="$files/script" -v over_file=0 -v 
 if command -v valgrind >/dev/null; then
     for program in calls "no_memory $quick" "file $files" "compact $files" \
         "compact_failing $files" "space $quick" "rewriting $quick 1" "rewriting_damaged $quick 100" "space_steps $quick" \
-        "space_processes $quick" "space_failing $quick" "full_disk $files" "maps $files" "maps_model $files 400" "abandoned $files" "processes $files" "meanwhile $files" "paths $files" 'script mem' "script file $files/log"; do
+        "space_processes $quick" "space_failing $quick" "full_disk $files" "maps $files" "maps_model $files 400" "amplification $quick few" "abandoned $files" "processes $files" "meanwhile $files" "paths $files" 'script mem' "script file $files/log"; do
         # shellcheck disable=SC2086 # a program and its arguments
         valgrind -q --child-silent-after-fork=yes --error-exitcode=1 --leak-check=full --show-leak-kinds=all "$out/"$program \
             <"$files/script.1" >/dev/null

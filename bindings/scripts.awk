@@ -12,7 +12,7 @@ BEGIN {
     WRONG = split("18446744073709551616 99999999999999999999999 02 00 +2 -2 2x 0x2", wrong)
     NAMES = split("- 74 7474 616161616161616161616161616161616161616161616161 00", name_of)
     # the oftener a command stands here the oftener it is asked for
-    KINDS = split("alloc alloc alloc alloc set set set set set set set set del del get get get replace replace replace free free open root cas cas id id mark mark flush size" (over_file ? "" : " amp gc gc"), kinds)
+    KINDS = split("alloc alloc alloc alloc set set set set set set set set del del get get get replace replace replace free free open root cas cas id id mark mark flush size amp" (over_file ? "" : " gc gc"), kinds)
     pages = 2
     is_wide = one_in(4)
     is_narrow = !is_wide && moves && one_in(3)

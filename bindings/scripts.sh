@@ -12,10 +12,10 @@
 # Left out are lines of two kinds:
 #
 # - A `cas` that names a root page 0: the library has no call for that, since 0 stands for no root.
-# - `amp` and `gc` over a file, where the library makes neither and moves no page. `sledpc` moves one as a page is replaced, or linked ten
-#   times, which adds a message to the log. So half of the scripts over a file have no such change and end anywhere. The other half have
-#   them, and flush at the end of each part; what `sledpc` replies to these is compared without the numbers of `flushed N` and `size N`,
-#   and its file isn't.
+# - `gc` over a file, where the library moves no page. `sledpc` moves one as a page is replaced, or linked ten times, which adds a message to
+#   the log. So half of the scripts over a file have no such change and end anywhere. The other half have them, and flush at the end of each
+#   part; what `sledpc` replies to these is compared without the numbers of `flushed N` and `size N` and the first of `amp N N`, which are of
+#   the log, and its file isn't.
 #
 # With KEEP=1 the files of a difference stay. The status is 0 where nothing differs, and else 1.
 set -eu
@@ -108,7 +108,7 @@ same_logs() {
 }
 
 without_numbers() {
-    sed 's/^flushed .*/flushed/; s/^size .*/size/' "$1"
+    sed 's/^flushed .*/flushed/; s/^size .*/size/; s/^amp [0-9]* /amp /' "$1"
 }
 
 # over_memory FILE: what each program replies is what the one in C does.

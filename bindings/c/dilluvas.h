@@ -220,6 +220,8 @@ dilluvas_status dilluvas_raw_flush(dilluvas *d, size_t *written);
 dilluvas_status dilluvas_raw_size(dilluvas *d, uint64_t *bytes);
 dilluvas_status dilluvas_raw_live(dilluvas *d, uint64_t *bytes);
 dilluvas_status dilluvas_raw_amp(dilluvas *d, uint64_t *log, uint64_t *pages);
+dilluvas_status dilluvas_raw_page_count(dilluvas *d, uint64_t *pages);
+dilluvas_status dilluvas_raw_page_size(dilluvas *d, uint64_t page, uint64_t *bytes);
 dilluvas_status dilluvas_raw_gc(dilluvas *d, bool *moved);
 dilluvas_status dilluvas_raw_was_recovered(dilluvas *d, bool *recovered);
 
@@ -577,10 +579,34 @@ static inline dilluvas_status dilluvas_live(dilluvas *d, uint64_t *bytes) {
 /* Writes how many bytes the log has, and how many the pages would take by their contents, including a segment; 2^64 - 1 means that or more.
  * It reads the pages that aren't in memory.
  *
- * Returns NOT_OVER_FILE; MEMORY, READ, CORRUPTION. */
+ * Returns NOT_OVER_FILE, where dilluvas_file_amp of dilluvas_file.h does it; MEMORY, READ, CORRUPTION. */
 static inline dilluvas_status dilluvas_amp(dilluvas *d, uint64_t *log, uint64_t *pages) {
     if (!d || !log || !pages) return DILLUVAS_ARGUMENTS;
     return dilluvas_raw_amp(d, log, pages);
+}
+
+/* Writes how many pages there are. Their numbers are those below it, the cache's own and the free ones among them.
+ *
+ * It reads nothing, but takes 16 bytes of memory for each page until it returns.
+ *
+ * Returns MEMORY. */
+static inline dilluvas_status dilluvas_page_count(dilluvas *d, uint64_t *pages) {
+    if (!d || !pages) return DILLUVAS_ARGUMENTS;
+    return dilluvas_raw_page_count(d, pages);
+}
+
+/* Writes how many bytes a page takes by its contents: a leaf or an index takes 128, the lengths of its bounds, and for each pair what is
+ * stored of the key, and the value, or 8 for a page; page 0, which has the names, takes for each the name and 8; page 1, which counts ids,
+ * takes 8. A page that is free, or that was never allocated, takes none. A page that isn't in memory is read, and is in memory then, as by
+ * dilluvas_get.
+ *
+ * The sizes of all pages and one segment are what dilluvas_amp writes to `pages`, if nothing is changed between the calls. Over a file
+ * dilluvas_file_amp adds them.
+ *
+ * Returns NEEDS over a file; RESERVED_ID for page 2^64 - 667; MEMORY, READ, CORRUPTION. */
+static inline dilluvas_status dilluvas_page_size(dilluvas *d, uint64_t page, uint64_t *bytes) {
+    if (!d || !bytes) return DILLUVAS_ARGUMENTS;
+    return dilluvas_raw_page_size(d, page, bytes);
 }
 
 /* Moves the page that is due, if one is, and writes whether one was. No page, stamp or id changes.

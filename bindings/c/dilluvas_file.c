@@ -795,6 +795,34 @@ dilluvas_status dilluvas_file_rewriting_failure(const dilluvas_file *file) {
     return file->buffer ? file->failure : DILLUVAS_NOT_OPEN;
 }
 
+/* ---- How much space the file takes, and how much its pages would. */
+
+/* Adds what each page takes to `bytes`. One page is read at a time: a call that reads all of them would begin anew for each. */
+static dilluvas_status add_pages(dilluvas_file *file, uint64_t *bytes) {
+    dilluvas_status status;
+    uint64_t count, size;
+    DILLUVAS_FILE_CALL(file, status, dilluvas_page_count(&file->cache, &count));
+    for (uint64_t page = 0; status == DILLUVAS_OK && page < count; page++) {
+        DILLUVAS_FILE_CALL(file, status, dilluvas_page_size(&file->cache, page, &size));
+        if (status == DILLUVAS_OK) *bytes = sum(*bytes, size);
+    }
+    return status;
+}
+
+dilluvas_status dilluvas_file_amp(dilluvas_file *file, uint64_t *log, uint64_t *pages) {
+    dilluvas_status status;
+    uint64_t size;
+    if (!file || !log || !pages) return DILLUVAS_ARGUMENTS;
+    if (!file->buffer) return DILLUVAS_NOT_OPEN;
+    uint64_t bytes = file->settings.segment_size;
+    DILLUVAS_FILE_CALL(file, status, dilluvas_size(&file->cache, &size));
+    if (status == DILLUVAS_OK) status = add_pages(file, &bytes);
+    if (status != DILLUVAS_OK) return status;
+    *log = size;
+    *pages = bytes;
+    return DILLUVAS_OK;
+}
+
 dilluvas_status dilluvas_file_close(dilluvas_file *file) {
     if (!file) return DILLUVAS_ARGUMENTS;
     if (!file->buffer) return DILLUVAS_NOT_OPEN;

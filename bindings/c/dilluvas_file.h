@@ -151,6 +151,20 @@ dilluvas_status dilluvas_file_flush(dilluvas_file *file, const dilluvas_compact_
  * Answers ARGUMENTS and NOT_OPEN too. */
 dilluvas_status dilluvas_file_rewriting_failure(const dilluvas_file *file);
 
+/* Writes how many bytes the log has, and how many the pages would take by their contents, including a segment, as dilluvas_amp does in memory;
+ * 2^64 - 1 means that or more. What is pending is in the pages, but not in the log.
+ *
+ * It reads the pages that aren't in memory one after another, as dilluvas_get does: those that were used longest ago are dropped for them
+ * within the capacity. What it reads of the file for a page is let go before the next one, so it takes time for each page, but no memory
+ * beside 16 bytes for each at the beginning. Nothing is changed, in an open batch either.
+ *
+ * No other call comes between, so it is one answer. A program that makes the calls itself (dilluvas_page_count, dilluvas_page_size), with
+ * changes between them, gets each page as it is when the call comes to it.
+ *
+ * Answers ARGUMENTS, NOT_OPEN; MEMORY, READ; CORRUPTION for a page that can't be read; WRITE where a write failed earlier. Nothing is written
+ * then, and the call may be made again. */
+dilluvas_status dilluvas_file_amp(dilluvas_file *file, uint64_t *log, uint64_t *pages);
+
 /* Closes the cache and the file. Nothing is flushed.
  *
  * Answers ARGUMENTS, NOT_OPEN. */

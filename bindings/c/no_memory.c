@@ -90,6 +90,7 @@ static void run(void) {
     CALL(dilluvas_get(&d, page, &found, buffer, sizeof buffer));
     CALL(dilluvas_value(&d, page, pairs + 8, 1, &stamp, buffer, sizeof buffer, &size));
     CALL(dilluvas_amp(&d, &log, &n));
+    CALL(dilluvas_page_count(&d, &n));
     CALL(dilluvas_gc(&d, &moved));
     CALL(dilluvas_pin(&d));
     CALL(dilluvas_free(&d, page, &stamp));
@@ -117,7 +118,7 @@ static void run_over_file(void) {
     dilluvas_file file = DILLUVAS_FILE_CLOSED;
     dilluvas_file_settings settings = {256, 10, 600};
     dilluvas_status status;
-    uint64_t page = 0, other = 0, stamp = 0, n;
+    uint64_t page = 0, other = 0, stamp = 0, n, log;
     uint8_t buffer[4096], bytes[100] = {1};
     size_t size;
     dilluvas_found found;
@@ -135,6 +136,7 @@ static void run_over_file(void) {
     FILE_CALL(dilluvas_flush(&file.cache, &size));
     CALL(dilluvas_file_close(&file));
     CALL(dilluvas_file_open(&file, path, &settings));
+    CALL(dilluvas_file_amp(&file, &log, &n));
     CALL(dilluvas_file_compact(&file));
     FILE_CALL(dilluvas_get(&file.cache, page, &found, buffer, sizeof buffer));
     FILE_CALL(dilluvas_open_tree(&file.cache, bytes, 50, &n));
@@ -255,6 +257,7 @@ static bool none_are_asked(void) {
     NONE(dilluvas_root(&d, bytes, 4, &n), DILLUVAS_OK);
     NONE(dilluvas_generate_id(&d, &n), DILLUVAS_OK);
     NONE(dilluvas_size(&d, &n), DILLUVAS_OK);
+    for (uint64_t one = 0; one < 100; one++) NONE(dilluvas_page_size(&d, one, &n), DILLUVAS_OK);
     NONE(dilluvas_gc(&d, &moved), DILLUVAS_OK);
     NONE(dilluvas_flush(&d, &size), DILLUVAS_OK);
     NONE(dilluvas_flush(&d, &size), DILLUVAS_OK);

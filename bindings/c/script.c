@@ -251,7 +251,8 @@ static bool serve_amp(script *s, words *left) {
     dilluvas_status status;
     uint64_t log = 0, pages = 0;
     if (!left->are_done) return false;
-    CALL(s, status, dilluvas_amp(&s->file.cache, &log, &pages));
+    if (s->file.buffer) status = dilluvas_file_amp(&s->file, &log, &pages);
+    else status = dilluvas_amp(&s->file.cache, &log, &pages);
     if (status != DILLUVAS_OK) put_error(status);
     else printf("amp %" PRIu64 " %" PRIu64 "\n", log, pages);
     return true;

@@ -47,6 +47,7 @@ def _load():
     for name, parameters, result in (
         ("open", (POINTER(_File), c_char_p, POINTER(FileSettings)), c_uint32),
         ("again", (POINTER(_File), POINTER(c_uint32)), c_bool),
+        ("amp", (POINTER(_File), POINTER(c_uint64), POINTER(c_uint64)), c_uint32),
         ("compact", (POINTER(_File),), c_uint32),
         ("close", (POINTER(_File),), c_uint32),
     ):
@@ -139,8 +140,17 @@ class CFileCache(Cache):
             if not again:
                 return status.value
 
-    def compact(self):
+    # Makes a call of the loop's own.
+    def _do_by_loop(self, name, *arguments):
         was_off = self._loop.system.is_off
-        status = library().dilluvas_file_compact(byref(self._file))
+        status = getattr(library(), "dilluvas_file_" + name)(byref(self._file), *arguments)
         self._tell_power(was_off)
         check(status)
+
+    def amplification(self):
+        log, pages = c_uint64(), c_uint64()
+        self._do_by_loop("amp", byref(log), byref(pages))
+        return log.value, pages.value
+
+    def compact(self):
+        self._do_by_loop("compact")

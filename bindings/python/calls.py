@@ -98,11 +98,18 @@ def file(folder):
                 stamps[page] = cache.set(page, stamps[page], b"key", value)
         long, _ = cache.allocate([(b"key", b"long" * 50000)])
         cache.flush()
-        assert refused(cache.attempt_gc).status == refused(cache.amplification).status == 10
+        assert refused(cache.attempt_gc).status == 10
+        takes = 8 + 4096 + 100 * (128 + 3 + 4 * 20) + 128 + 3 + 4 * 50000
+        assert cache.amplification() == (cache.size(), takes)
         assert refused(lambda: FileCache(path)).status == HELD
     with FileCache(path, **small) as cache:
         assert cache.was_recovered()
+        # no page is in memory
+        assert cache.amplification() == (cache.size(), takes)
         compact(cache)
+        takes = cache.amplification()[1]
+        cache.compact()
+        assert cache.amplification() == (cache.size(), takes)
         assert refused(lambda: FileCache(path)).status == HELD
         assert all(cache.get(page).pairs == [(b"key", b"then" * 20)] for page in stamps)
         assert cache.value(long, b"key") == b"long" * 50000

@@ -289,6 +289,8 @@ class Script:
     def _compare(self, name, answer, expected, written):
         if name == "size":
             wanted = (OK, len(self.journal.image))
+        elif name == "amplification":
+            wanted = (OK, (len(self.journal.image), expected.value + self.settings["segment_size"]))
         else:
             wanted = (expected.status, written if name == "flush" and expected.status == OK else expected.value)
         check(answer == wanted, name, answer, wanted)

@@ -65,6 +65,16 @@ def linked(node, link):
     return Node(False, tuple(sorted(pairs.items())))
 
 
+def _size_of(content):
+    if content is None:
+        return 0
+    if isinstance(content, int):
+        return 8
+    if isinstance(content, dict):
+        return sum(len(name) + 8 for name in content)
+    return 128 + sum(len(key) + len(value) for key, value in content.pairs)
+
+
 def is_leaf(pairs):
     """Whether a leaf can hold these pairs: their keys ascend."""
     return all(one[0] < other[0] for one, other in zip(pairs, pairs[1:]))
@@ -221,7 +231,8 @@ class Machine:
         return Outcome(OK, self.recovered)
 
     def amplification(self):
-        return Outcome(NOT_OVER_FILE)
+        """How much the pages take, without a segment. How long the log is isn't known here."""
+        return Outcome(OK, sum(_size_of(held.content) for held in self.held))
 
     def attempt_gc(self):
         return Outcome(NOT_OVER_FILE)

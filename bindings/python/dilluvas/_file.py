@@ -70,7 +70,7 @@ class FileCache(Cache):
 
     A file that is missing or empty is made. Its name ends in ".dilluvas-new" until it is whole and durable, so a crash leaves it whole or as
     it was. It has the owner and the mode of the empty one, and a link to that stays. None is made if a link leads to no file.
-    `amplification` and `attempt_gc` are refused over a file. A change that the disk has no room for is `DiskFull`, and isn't begun.
+    `attempt_gc` is refused over a file. A change that the disk has no room for is `DiskFull`, and isn't begun.
 
     The file belongs to the process that opened it. A forked child neither reads nor writes it: a call that has to is refused there, and
     closing leaves the file locked for the parent.
@@ -158,6 +158,23 @@ class FileCache(Cache):
             if is_put:
                 new.sync_folder()
             return is_put
+
+    def amplification(self) -> tuple[int, int]:
+        """How many bytes the log has, and how many the pages would take.
+
+        It reads the pages that aren't in memory one after another, as `get` does, so those that were used longest ago are dropped for them
+        within the capacity. Each is read once, and the list of pages takes 16 bytes for each at the beginning. The calls of other threads
+        wait, so it is one answer. What is pending counts in the pages alone.
+        """
+        return self._in_turn(self._amplification)
+
+    # One page is read at a time: a call that reads all of them would start over for each.
+    def _amplification(self) -> tuple[int, int]:
+        log, pages, size = self._number("size"), int(self._settings.segment_size), c_uint64()
+        for page in range(self._number("page_count")):
+            check(self._answer("page_size", page, byref(size)))
+            pages += size.value
+        return log, min(pages, (1 << 64) - 1)
 
     def compact(self) -> None:
         """Rewrites the cache into a new file, which has each page as one record, and continues on that.

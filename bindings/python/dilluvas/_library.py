@@ -93,6 +93,8 @@ _CALLS: dict[str, tuple[Any, ...]] = {
     "size": (_HANDLE, _NUMBER),
     "live": (_HANDLE, _NUMBER),
     "amp": (_HANDLE, _NUMBER, _NUMBER),
+    "page_count": (_HANDLE, _NUMBER),
+    "page_size": (_HANDLE, c_uint64, _NUMBER),
     "gc": (_HANDLE, _FLAG),
     "was_recovered": (_HANDLE, _FLAG),
     "map_get": (*_KEY, *_BUFFER, _SIZE),

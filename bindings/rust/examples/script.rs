@@ -1,7 +1,6 @@
 //! The script of docs/SCRIPT.md over the library: `script mem` over a new log in memory, and `script file PATH` over the log in a file. It reads
 //! lines from standard input, and writes for each the reply that the program `sledpc` writes. Two things the library doesn't do: a root
-//! page 0 is no root to it, and the line that names one is no command here; and over a file it makes neither `amp` nor `gc`, and moves no
-//! page.
+//! page 0 is no root to it, and the line that names one is no command here; and over a file it makes no `gc`, and moves no page.
 //!
 //! The status is 0 where the script ends, 1 where the file, a stream or the memory fails, and 2 for wrong words.
 

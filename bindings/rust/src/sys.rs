@@ -99,6 +99,8 @@ unsafe extern "C" {
     fn dilluvas_raw_size(d: *mut Handle, bytes: *mut u64) -> u32;
     fn dilluvas_raw_live(d: *mut Handle, bytes: *mut u64) -> u32;
     fn dilluvas_raw_amp(d: *mut Handle, log: *mut u64, pages: *mut u64) -> u32;
+    fn dilluvas_raw_page_count(d: *mut Handle, pages: *mut u64) -> u32;
+    fn dilluvas_raw_page_size(d: *mut Handle, page: u64, bytes: *mut u64) -> u32;
     fn dilluvas_raw_gc(d: *mut Handle, moved: *mut bool) -> u32;
     fn dilluvas_raw_was_recovered(d: *mut Handle, recovered: *mut bool) -> u32;
 }
@@ -238,6 +240,14 @@ impl Handle {
 
     pub fn amp(&mut self, log: &mut u64, pages: &mut u64) -> u32 {
         unsafe { dilluvas_raw_amp(self, log, pages) }
+    }
+
+    pub fn page_count(&mut self, pages: &mut u64) -> u32 {
+        unsafe { dilluvas_raw_page_count(self, pages) }
+    }
+
+    pub fn page_size(&mut self, page: u64, bytes: &mut u64) -> u32 {
+        unsafe { dilluvas_raw_page_size(self, page, bytes) }
     }
 
     pub fn gc(&mut self, moved: &mut bool) -> u32 {

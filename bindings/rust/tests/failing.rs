@@ -211,6 +211,26 @@ fn every_call_answers_write(cache: &mut Cache, device: &Shared) {
     assert_eq!(device.calls(), calls, "the device is left alone");
 }
 
+// What was read before stands, and the call made again succeeds.
+#[test]
+fn each_read_of_an_amplification_fails_in_turn() {
+    let device = Shared::of(made().0);
+    let wanted = open(&device).amplification();
+    assert!(wanted.is_ok());
+    for call in 1.. {
+        let mut cache = open(&device);
+        device.fail_at(call, Fault::NothingDone);
+        let answer = cache.amplification();
+        if !device.has_failed() {
+            assert_eq!(answer, wanted);
+            assert!(call > 10);
+            return;
+        }
+        assert_eq!(answer, Err(refused::read()));
+        assert_eq!(cache.amplification(), wanted);
+    }
+}
+
 #[derive(Clone, Copy, PartialEq, Eq, PartialOrd, Ord, Debug)]
 enum End {
     BehindFailedRead,

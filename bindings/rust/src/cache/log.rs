@@ -1,6 +1,6 @@
 //! Ids, and the whole log.
 
-use super::Cache;
+use super::{Cache, Place};
 use crate::answer::Amplification;
 use crate::error::{Error, done};
 
@@ -82,6 +82,10 @@ impl Cache {
 
     /// Returns how much space the log takes, and how much the pages would take. It reads the pages that are not in memory.
     ///
+    /// Over a file it reads one page after another, as [`get`](Cache::get) does: those that were used longest ago are dropped for them within
+    /// the capacity. Each page is read once, and the list of pages takes 16 bytes for each at the beginning. What is pending counts in the
+    /// pages alone: the log has it once it is flushed. Nothing is changed, in an open batch either.
+    ///
     /// ```
     /// use dilluvas::{Cache, Settings};
     ///
@@ -98,11 +102,34 @@ impl Cache {
     ///
     /// # Errors
     ///
-    /// [`NotOverFile`](Error::NotOverFile) over a file or another device, or [`Write`](Error::Write) there; [`OutOfMemory`](Error::OutOfMemory).
+    /// [`OutOfMemory`](Error::OutOfMemory); over a file or another device [`Read`](Error::Read), [`Write`](Error::Write), and
+    /// [`Corruption`](Error::Corruption) for a page that can't be read.
     pub fn amplification(&mut self) -> Result<Amplification, Error> {
-        let (mut log, mut pages) = (0, 0);
-        self.call(|handle| handle.amp(&mut log, &mut pages))?;
+        let (Place::Device(settings) | Place::File(settings, _)) = &self.place else {
+            let (mut log, mut pages) = (0, 0);
+            self.call(|handle| handle.amp(&mut log, &mut pages))?;
+            return Ok(Amplification { log, pages });
+        };
+        let mut pages = settings.segment_size as u64;
+        let log = self.size()?;
+        for page in 0..self.page_count()? {
+            pages = pages.saturating_add(self.page_size(page)?);
+        }
         Ok(Amplification { log, pages })
+    }
+
+    // How many pages there are, with those that are free and the cache's own.
+    fn page_count(&mut self) -> Result<u64, Error> {
+        let mut pages = 0;
+        self.call(|handle| handle.page_count(&mut pages))?;
+        Ok(pages)
+    }
+
+    // How many bytes a page takes by its contents. One page is read at a time: a call that reads all of them would start over for each.
+    fn page_size(&mut self, page: u64) -> Result<u64, Error> {
+        let mut bytes = 0;
+        self.call(|handle| handle.page_size(page, &mut bytes))?;
+        Ok(bytes)
     }
 
     /// Moves the page that is due, and returns whether there was one. No page, stamp or id changes.
