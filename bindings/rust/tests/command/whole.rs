@@ -45,6 +45,13 @@ fn stat_tells_what_a_file_holds() {
     let mut cache = Cache::open(store.folder.file(), &FileSettings::default()).unwrap();
     let found = (2..10_000).filter(|page| cache.get(*page).unwrap().is_some());
     assert_eq!(pages, found.count() as u64);
+    let takes = cache.amplification().unwrap();
+    let held = row(&told, "bytes of the pages");
+    assert_eq!(
+        held,
+        takes.pages - FileSettings::default().segment_size as u64
+    );
+    assert!(held > 128 * pages + 10_000 && held < len / 2);
 }
 
 #[test]
@@ -55,6 +62,8 @@ fn stat_of_a_store_of_nothing_is_zeros() {
     for name in ["maps", "keys", "bytes of keys", "bytes of values", "pages"] {
         assert_eq!(row(&told, name), 0, "{name}");
     }
+    // the counter of ids
+    assert_eq!(row(&told, "bytes of the pages"), 8);
     assert_eq!(store.run(&["maps"]).done(), "");
     assert_eq!(store.run(&["dump"]).done(), "");
     assert_eq!(

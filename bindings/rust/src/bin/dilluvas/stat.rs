@@ -33,6 +33,7 @@ pub fn stat(file: &Path) -> Result<Outcome, Failure> {
         Err(error) => Err(error),
     })?;
     drop(progress);
+    let held = store::bytes_of_pages(&mut cache)?;
     let counts = count(&Db::from(cache))?;
     let rows = [
         ("maps", counts.maps),
@@ -40,6 +41,7 @@ pub fn stat(file: &Path) -> Result<Outcome, Failure> {
         ("bytes of keys", counts.key_bytes),
         ("bytes of values", counts.value_bytes),
         ("pages", pages),
+        ("bytes of the pages", held),
         ("bytes of the file", bytes),
         ("bytes that compact spares", bytes.saturating_sub(live)),
     ];
