@@ -9,9 +9,9 @@ ghost use Rattle.sled_log.specs.declared.log.LogError.TheVariants.{Memory, ReadF
 ghost use Rattle.sled_disk.specs.Disk.{Only, LeavesTheSame};
 ghost use Rattle.sled_disk.specs.Format.{Describes};
 ghost use Rattle.sled_disk.specs.Abandoned.{room_behind};
-ghost use Rattle.sled_disk.specs.ReaderState.{GoesOn, read_by, waiting_by};
+ghost use Rattle.sled_disk.specs.ReaderState.{GoesOn, StepsOn, TakesNext, read_by, waiting_by};
 ghost use Rattle.sled_base.specs.Kinds.{kind_of};
-ghost use Rattle.sled_disk.specs.DiskReads.{Rests, ReadFaults, HasHead, HeadOnDisk};
+ghost use Rattle.sled_disk.specs.DiskReads.{Rests, ReadFaults};
 ghost use Rattle.sled_disk.specs.RecoveredHeads.{AllEndBy, AreHeads, AreRead};
 ghost use Rattle.sled_disk.specs.Reading.{chains_of, start, found_at, Holds};
 
@@ -101,17 +101,13 @@ impl Reader {
         requires goes_on { D.tells → GoesOn (D.seen disk.old) self.old }
         requires gate { self.old.at ≡ self.old.body_end }
         ensures goes_on { D.tells → GoesOn (D.seen disk.old) self.new }
-        ensures end { self.new.end ≡ self.old.end }
-        ensures kept { self.old.at ≤ self.new.at }
         ensures further { IfOk result (λ opened. opened ≡ true → self.old.at < self.new.at) }
         ensures small { IfOk result (λ opened. opened ≡ false → self.new.at + room_behind self.new.begun < 2 ^ 63) }
         ensures closed { D.tells → IfOk result (λ opened. opened ≡ false → found_at 8 start
             (drop 8 (D.seen disk.old)) ≡ Some (self.new.at, read_by self.new)) }
         ensures corrupt { D.tells → IsErrOf result Corruption
             → found_at 8 start (drop 8 (D.seen disk.old)) ≡ None }
-        ensures only { IfErr result (λ e. (e ≡ Memory) ⊎ (e ≡ ReadFault) ⊎ (e ≡ Corruption)) }
-        ensures rests { Rests D.tells D.seen D.may_leave D.moment D.left_since disk.old disk.new }
-        ensures faults { ReadFaults (D.counts disk.old) (D.counts disk.new) result }
+        ensures steps { StepsOn ⟦<D as Disk>⟧ disk.old disk.new self.old self.new result }
     {
         if !self.targets.is_empty() {
             return Err(LogError::Corruption);
@@ -140,14 +136,10 @@ impl Reader {
         requires goes_on { D.tells → GoesOn (D.seen disk.old) self.old }
         requires body { self.old.at < self.old.body_end }
         ensures goes_on { D.tells → GoesOn (D.seen disk.old) self.new }
-        ensures end { self.new.end ≡ self.old.end }
-        ensures kept { self.old.at ≤ self.new.at }
         ensures further { OnOk result (self.old.at < self.new.at) }
         ensures corrupt { D.tells → IsErrOf result Corruption
             → found_at 8 start (drop 8 (D.seen disk.old)) ≡ None }
-        ensures only { IfErr result (λ e. (e ≡ Memory) ⊎ (e ≡ ReadFault) ⊎ (e ≡ Corruption)) }
-        ensures rests { Rests D.tells D.seen D.may_leave D.moment D.left_since disk.old disk.new }
-        ensures faults { ReadFaults (D.counts disk.old) (D.counts disk.new) result }
+        ensures steps { StepsOn ⟦<D as Disk>⟧ disk.old disk.new self.old self.new result }
     {
         let head = head_on(&mut self.window, disk, self.at, self.body_end, self.end)?;
         let Some((raw, len)) = head else {
@@ -171,19 +163,12 @@ impl Reader {
     ) -> Result<(), LogError>
         requires goes_on { D.tells → GoesOn (D.seen disk.old) self.old }
         requires closed { self.old.begun ≡ None }
-        requires head { D.tells
-            → HeadOnDisk (D.seen disk.old) self.old.at self.old.body_end (Some (raw, len)) }
-        requires has { HasHead self.old.at self.old.body_end (Some (raw, len)) }
-        requires ahead { AllByRecursion (λ target. self.old.at < target) self.old.targets }
+        requires next { TakesNext D.tells (D.seen disk.old) self.old raw len }
         ensures goes_on { D.tells → GoesOn (D.seen disk.old) self.new }
-        ensures end { self.new.end ≡ self.old.end }
-        ensures kept { self.old.at ≤ self.new.at }
         ensures further { OnOk result (self.old.at < self.new.at) }
         ensures corrupt { D.tells → IsErrOf result Corruption
             → found_at 8 start (drop 8 (D.seen disk.old)) ≡ None }
-        ensures only { IfErr result (λ e. (e ≡ Memory) ⊎ (e ≡ ReadFault) ⊎ (e ≡ Corruption)) }
-        ensures rests { Rests D.tells D.seen D.may_leave D.moment D.left_since disk.old disk.new }
-        ensures faults { ReadFaults (D.counts disk.old) (D.counts disk.new) result }
+        ensures steps { StepsOn ⟦<D as Disk>⟧ disk.old disk.new self.old self.new result }
     {
         if begins(raw) {
             if !is_begin(raw, len) {
@@ -215,19 +200,12 @@ impl Reader {
     ) -> Result<(), LogError>
         requires goes_on { D.tells → GoesOn (D.seen disk.old) self.old }
         requires opened { self.old.begun ≡ Some begun }
-        requires head { D.tells
-            → HeadOnDisk (D.seen disk.old) self.old.at self.old.body_end (Some (raw, len)) }
-        requires has { HasHead self.old.at self.old.body_end (Some (raw, len)) }
-        requires ahead { AllByRecursion (λ target. self.old.at < target) self.old.targets }
+        requires next { TakesNext D.tells (D.seen disk.old) self.old raw len }
         ensures goes_on { D.tells → GoesOn (D.seen disk.old) self.new }
-        ensures end { self.new.end ≡ self.old.end }
-        ensures kept { self.old.at ≤ self.new.at }
         ensures further { OnOk result (self.old.at < self.new.at) }
         ensures corrupt { D.tells → IsErrOf result Corruption
             → found_at 8 start (drop 8 (D.seen disk.old)) ≡ None }
-        ensures only { IfErr result (λ e. (e ≡ Memory) ⊎ (e ≡ ReadFault) ⊎ (e ≡ Corruption)) }
-        ensures rests { Rests D.tells D.seen D.may_leave D.moment D.left_since disk.old disk.new }
-        ensures faults { ReadFaults (D.counts disk.old) (D.counts disk.new) result }
+        ensures steps { StepsOn ⟦<D as Disk>⟧ disk.old disk.new self.old self.new result }
     {
         if closes(raw) {
             if !is_end(raw, len) {

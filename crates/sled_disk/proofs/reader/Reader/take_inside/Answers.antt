@@ -22,7 +22,7 @@ next : (g : _) (c : Start g) → g.D.Disk.tells
     → (let self = c.args.self.now in IsNext (g.D.Disk.seen c.args.disk.now) self c.args.raw c.args.len (within (chains_of self.pages.items) c.args.begun self.changes.items))
 next g c told =
     let self = c.args.self.now in
-    record { on = c.requires.goes_on told; head = c.requires.head told; has = c.requires.has; ahead = c.requires.ahead; read = read-opened (chains_of self.pages.items) self.begun c.args.begun self.changes.items c.requires.opened }
+    record { on = c.requires.goes_on told; head = c.requires.next.head told; has = c.requires.next.has; ahead = c.requires.next.ahead; read = read-opened (chains_of self.pages.items) self.begun c.args.begun self.changes.items c.requires.opened }
 
 -- where it closes a batch
 closing : (g : _) (c : In_ok-place g) → g.D.Disk.tells → Closing (g.D.Disk.seen c.args.disk.now) c.args.raw c.args.self.now.at c.args.len c.in_ok-place.place
@@ -94,7 +94,7 @@ invariant_of-self-2 g c =
     let self = c.args.self.now in
     let len = c.args.len in
     let end = self.at + (17 + len) in
-    let has = c.requires.has in
+    let has = c.requires.next.has in
     let changes = changes g (goal.at.invariant_of-self-2 g c).After-is_change ∙ c.if-not-is_change.false in
     record {
       none = λ e. absurd (let opened = sym e ∙ c.requires.opened in none_some opened);

@@ -16,7 +16,7 @@ next : (g : _) (c : Start g) → g.D.Disk.tells → (let self = c.args.self.now 
 next g c told =
     let self = c.args.self.now in
     let is = read-closed (chains_of self.pages.items) self.begun self.changes.items c.requires.closed in
-    record { on = c.requires.goes_on told; head = c.requires.head told; has = c.requires.has; ahead = c.requires.ahead; read = is }
+    record { on = c.requires.goes_on told; head = c.requires.next.head told; has = c.requires.next.has; ahead = c.requires.next.ahead; read = is }
 
 pub returns-then-not-is_begin-clause-corrupt : goal.returns-then-not-is_begin-clause-corrupt
 returns-then-not-is_begin-clause-corrupt g c = λ told is.
@@ -26,7 +26,7 @@ returns-then-not-is_begin-clause-corrupt g c = λ told is.
 pub invariant_of-self : goal.invariant_of-self
 invariant_of-self g c =
     let self = c.args.self.now in
-    let has = c.requires.has in
+    let has = c.requires.next.has in
     let none = c.is_begin.ensures.len c.if-not-is_begin.false in
     record {
       none = λ e. absurd cc;
@@ -54,7 +54,7 @@ returns-in_err-name-clause-corrupt g c = λ told is.
 pub invariant_of-self-then-is_mark : goal.invariant_of-self-then-is_mark
 invariant_of-self-then-is_mark g c =
     let self = c.args.self.now in
-    let has = c.requires.has in
+    let has = c.requires.next.has in
     let eight = c.is_mark.ensures.len c.if-is_mark.true in
     record {
       none = self.none;
@@ -91,7 +91,7 @@ invariant_of-self-2 g c =
     let len = c.args.len in
     let end = self.at + (17 + len) in
     let chains = chains_of self.pages.items in
-    let has = c.requires.has in
+    let has = c.requires.next.has in
     record {
       none = self.none;
       waiting = waiting-later self.at end self.changes.items (omega arith) self.waiting;
