@@ -25,7 +25,7 @@ use Rattle.sled_pagecache.specs.declared.pagecache.handles.call.Call.{Call}
 use Rattle.sled_pagecache.specs.declared.pagecache.handles.call.Call.TheVariants.{Allocate, Get, Link, Replace, GetMeta, GetIdgen, GenerateId, Flush, SizeOnDisk, SpaceAmplification, TakeFuzzySnapshot, MetaPidForName, CasRoot, AttemptGc}
 use Rattle.sled_pagecache.specs.declared.pagecache.handles.call.Call.TheVariants as call
 use Rattle.sled_shared.specs.Book.{Book, any_behind, any_room, any_room_again, StepsTo, RunsCalls, Runs, ReplaysTo, AreRounds, ids_given, ids_of, RisesWithin}
-use Rattle.sled_shared.specs.Calls.{Answered, Asked, Batch, Batched, Entry, IsEntry, OpenTree, Opened, Reply, Request}
+use Rattle.sled_shared.specs.Calls.{Answered, Asked, Batch, Batched, Entry, GetAll, GotAll, IsEntry, OpenTree, Opened, Reply, Request}
 
 -- ---- what a step does to the next id
 
@@ -300,6 +300,7 @@ entry-rises : (interval : ℕ) (first : State) (asked : Request) (answer : Reply
 entry-rises interval first (Asked asked) (Answered answer) calls last is run = one-rises interval first asked answer last (subst (λ (l : MadeCalls). RunsCalls interval first l last) is run)
 entry-rises interval first (OpenTree name) (Opened result) calls last is run = calls-rise interval first calls last run
 entry-rises interval first (Batch swaps) (Batched result) calls last is run = calls-rise interval first calls last run
+entry-rises interval first (GetAll pages) (GotAll result) calls last is run = calls-rise interval first calls last run
 entry-rises interval first asked answer calls last is run = absurd is
 
 entries-rise : (interval : ℕ) (first : State) (entries : List Entry) (last : State) → Runs interval first entries last → RisesWithin first.next (flat_map (λ e. ids_given e.answer) entries) last.next

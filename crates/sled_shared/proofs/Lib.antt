@@ -6,4 +6,5 @@ pub mod Replays
 pub mod Replaying
 pub mod Ids
 pub mod Batching
+pub mod Reading
 pub mod Drawn

@@ -1,11 +1,13 @@
 -- What is entered for a call, and which calls of the page cache in a row an entry is, each with its answer.
-use Rattle.std.specs.Prelude.{◌≡◌, ◌⊎◌, ℕ, List, [], ◌∷◌, ◌++◌, Result, Ok, Err, ⊤}
+use Rattle.std.specs.Prelude.{◌≡◌, ◌⊎◌, ℕ, List, [], ◌∷◌, ◌++◌, Option, Result, Ok, Err, ⊤}
 use Rattle.std.specs.Global.{Vec}
 use Rattle.sled_base.specs.Errors.{error_of}
 use Rattle.sled_base.specs.Order.{Bytes}
 use Rattle.sled_base.specs.declared.types.Error.{Error}
 use Rattle.sled_base.specs.declared.types.Refusal.{Refusal}
+use Rattle.sled_node.specs.Node.{WholeNode}
 use Rattle.sled_pagecache.specs.Batches.{with_pin}
+use Rattle.sled_pagecache.specs.State.{Token}
 use Rattle.sled_pagecache.specs.Trees.{MadeCalls, AreCallsOf}
 use Rattle.sled_pagecache.specs.declared.pagecache.handles.call.Answer.{Answer}
 use Rattle.sled_pagecache.specs.declared.pagecache.handles.call.Answer.TheVariants.{Allocated, Got, Linked, Replaced, Freed, FoundRoot, RootSwapped, Generated, Flushed, Pinned, Sealed, Cancelled}
@@ -21,12 +23,18 @@ pub data Request : Type 0 where
   Asked : Call → Request
   OpenTree : Bytes → Request
   Batch : List Swap → Request
+  GetAll : List ℕ → Request
 
--- The answer. A batch that failed has the answers before the error.
+-- what a read finds: a page's token and node, or that it is absent or free
+abbrev pub Found : Type 0
+Found = Option (Token × WholeNode)
+
+-- The answer. A batch that failed has the answers before the error, and so have reads.
 pub data Reply : Type 0 where
   Answered : Answer → Reply
   Opened : Result ℕ Error → Reply
   Batched : Result (List SwapAnswer) (Error × List SwapAnswer) → Reply
+  GotAll : Result (List Found) (Error × List Found) → Reply
 
 pub record Entry : Type 0 where
   pub call : Request
@@ -35,7 +43,7 @@ pub record Entry : Type 0 where
 abbrev pub entry : Request → Reply → Entry
 entry call answer = record { call = call; answer = answer }
 
--- the answer is this error; for a batch, before any of its swaps
+-- the answer is this error; for a batch, before any of its swaps, and for reads, before anything that was found
 abbrev pub IsRefusal : Reply → Error → Type 0
 IsRefusal (Answered (Allocated result)) e = result ≡ Err e
 IsRefusal (Answered (Got result)) e = result ≡ Err e
@@ -48,6 +56,7 @@ IsRefusal (Answered (Generated result)) e = result ≡ Err e
 IsRefusal (Answered (Flushed result)) e = result ≡ Err e
 IsRefusal (Opened result) e = result ≡ Err e
 IsRefusal (Batched result) e = result ≡ Err (e, [])
+IsRefusal (GotAll result) e = result ≡ Err (e, [])
 -- no request has another answer
 IsRefusal answer e = ⊥
 
@@ -100,10 +109,28 @@ IsBatch swaps (Err (e, answers)) calls =
     ⊎ ((inner : MadeCalls) × AreSwaps swaps (Ok tt) answers inner × (calls ≡ with_pin (inner ++ (call.Seal, Sealed (Err e)) ∷ [])))
     ⊎ ((inner : MadeCalls) × (closed : Result (Unit {0}) Error) × AreSwaps swaps (Err e) answers inner × (calls ≡ with_pin (inner ++ (call.Cancel, Cancelled closed) ∷ [])))
 
+-- the answer of several reads, with a list for its vector
+abbrev pub got_all : Result (Vec Found) (Error × Vec Found) → Result (List Found) (Error × List Found)
+got_all (Ok found) = Ok found.items
+got_all (Err (e, found)) = Err (e, found.items)
+
+-- These calls are reads of the pages, in their order: of all of them, each with what it found, or of those up to the one whose read failed.
+abbrev pub AreReads : List ℕ → Result (Unit {0}) Error → List Found → MadeCalls → Type 0
+AreReads [] (Ok done) [] calls = calls ≡ []
+AreReads (pid ∷ pages) (Err e) [] calls = calls ≡ (call.Get pid, Got (Err e)) ∷ []
+AreReads (pid ∷ pages) ended (found ∷ more) calls = (rest : MadeCalls) × (calls ≡ (call.Get pid, Got (Ok found)) ∷ rest) × AreReads pages ended more rest
+AreReads pages ended found calls = ⊥
+
+-- Nothing else is called. An error is that of the page behind those of which something was found.
+abbrev pub IsReading : List ℕ → Result (List Found) (Error × List Found) → MadeCalls → Type 0
+IsReading pages (Ok found) calls = AreReads pages (Ok tt) found calls
+IsReading pages (Err (e, found)) calls = AreReads pages (Err e) found calls
+
 -- an entry is these calls
 abbrev pub IsEntry : Request → Reply → MadeCalls → Type 0
 IsEntry (Asked asked) (Answered answer) calls = calls ≡ (asked, answer) ∷ []
 IsEntry (OpenTree name) (Opened result) calls = AreCallsOf ⊤ name result calls
 IsEntry (Batch swaps) (Batched result) calls = IsBatch swaps result calls
+IsEntry (GetAll pages) (GotAll result) calls = IsReading pages result calls
 -- no request gets another answer
 IsEntry asked answer calls = ⊥

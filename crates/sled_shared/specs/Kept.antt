@@ -10,7 +10,7 @@ use Rattle.sled_node.specs.Node.{WholeNode}
 use Rattle.sled_pagecache.specs.State.{Token, token}
 use Rattle.sled_pagecache.specs.declared.pagecache.handles.call.Answer.TheVariants.{Allocated, Got, Linked, Replaced, Freed, FoundRoot, RootSwapped, Generated, Flushed}
 use Rattle.sled_pagecache.specs.declared.pagecache.handles.call.Call.TheVariants as call
-use Rattle.sled_shared.specs.Calls.{Entry, entry, Asked, OpenTree, Batch, Answered, Opened, Batched}
+use Rattle.sled_shared.specs.Calls.{Entry, Found, entry, Asked, OpenTree, Batch, GetAll, Answered, Opened, Batched, GotAll}
 use Rattle.sled_shared.specs.declared.calls.Swap.{Swap}
 use Rattle.sled_shared.specs.declared.calls.Swap.TheVariants as swap
 use Rattle.sled_shared.specs.declared.calls.SwapAnswer.{SwapAnswer}
@@ -65,6 +65,21 @@ abbrev pub batch_kept : List Swap → List Ending → Kept (Unit {0}) → Result
 batch_kept swaps endings (Ok done) = Ok (swaps_ended swaps endings)
 batch_kept swaps endings (Err refusal) = Err (error_of refusal.value, swaps_ended swaps endings)
 
+-- what was found of a page
+abbrev pub found_kept : ℕ → Option (ℕ × Box WholeNode) → Found
+found_kept pid None = None
+found_kept pid (Some (stamp, node)) = Some (token pid stamp, node.value)
+
+-- what was found of the pages that were read
+abbrev pub all_found : List ℕ → List (Option (ℕ × Box WholeNode)) → List Found
+all_found (pid ∷ pages) (one ∷ found) = found_kept pid one ∷ all_found pages found
+all_found pages found = []
+
+-- the answer of reads of them
+abbrev pub reads_kept : List ℕ → List (Option (ℕ × Box WholeNode)) → Kept (Unit {0}) → Result (List Found) (Error × List Found)
+reads_kept pages found (Ok done) = Ok (all_found pages found)
+reads_kept pages found (Err refusal) = Err (error_of refusal.value, all_found pages found)
+
 abbrev pub entry_of : Called → Entry
 entry_of (called.Allocate node kept) = entry (Asked (call.Allocate node.value)) (Answered (Allocated (answer_kept kept)))
 entry_of (called.Get pid kept) = entry (Asked (call.Get pid)) (Answered (Got (node_kept pid kept)))
@@ -77,3 +92,4 @@ entry_of (called.OpenTree name kept) = entry (OpenTree name.value) (Opened (answ
 entry_of (called.CasRoot asked kept) = entry (Asked (call.CasRoot asked.value.name asked.value.old asked.value.new)) (Answered (RootSwapped (answer_kept kept)))
 entry_of (called.MetaPidForName name kept) = entry (Asked (call.MetaPidForName name.value)) (Answered (FoundRoot (root_kept name.value kept)))
 entry_of (called.Batch asked kept) = entry (Batch asked.value.swaps.items) (Batched (batch_kept asked.value.swaps.items asked.value.endings.items kept))
+entry_of (called.GetAll asked kept) = entry (GetAll asked.value.pages.items) (GotAll (reads_kept asked.value.pages.items asked.value.found.items kept))

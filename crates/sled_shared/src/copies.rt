@@ -1,10 +1,11 @@
 //! Copies of the arguments of a call, and of a node that was found: one is passed on, and one is entered.
 
-ghost use Rattle.std.specs.Prelude.{◌≡◌, IfOk, IsSome};
+ghost use Rattle.std.specs.Prelude.{◌≡◌, Ok, Err, IfOk, IfErr, IsSome};
+ghost use Rattle.sled_base.specs.Errors.{error_of};
 ghost use Rattle.sled_pagecache.specs.Rows.{IsMade};
 ghost use Rattle.sled_pagecache.specs.declared.pagecache.handles.call.Answer.TheVariants.{Got};
 ghost use Rattle.sled_pagecache.specs.declared.pagecache.handles.call.Call.TheVariants.{Get};
-ghost use Rattle.sled_shared.specs.Kept.{node_kept};
+ghost use Rattle.sled_shared.specs.Kept.{found_kept, node_kept};
 
 use crate::entry::{Kept, RootSwap};
 use crate::keeping::{Spare, put};
@@ -14,7 +15,35 @@ use sled_node::{Link, Node};
 use sled_pagecache::{PageCache, PageView};
 use std::alloc::{AllocError, Global};
 
-// The node of a page, copied twice. Where there is no memory for the copies, that is the answer.
+/// What a read finds, and what an entry stores of that.
+pub(crate) type FoundTwice = (Option<(PageView, Node)>, Option<(u64, Box<Node>)>);
+
+// Reads a page, with two copies of its node. Where there is no memory for the copies, the read fails.
+pub(crate) fn read<L: Log>(
+    alloc: Global,
+    cache: &mut PageCache<L>,
+    pid: PageId,
+) -> Result<FoundTwice, Refusal>
+    ensures same { IfOk result (λ twice. found_kept pid twice.1 ≡ twice.0) }
+    ensures made { IfOk result
+        (λ twice. IsMade L.Log cache.old (Get pid) (Got (Ok twice.0)) cache.new) }
+    ensures failed { IfErr result
+        (λ e. IsMade L.Log cache.old (Get pid) (Got (Err (error_of e))) cache.new) }
+{
+    match cache.get(pid) {
+        Ok(Some(view)) => match two_of(alloc, view.node()) {
+            Ok((node, copy)) => {
+                let token = view.token();
+                Ok((Some((token, node)), Some((token.ts(), copy))))
+            }
+            Err(_) => Err(Refusal::OutOfMemory),
+        },
+        Ok(None) => Ok((None, None)),
+        Err(refusal) => Err(refusal),
+    }
+}
+
+// The same as the answer of a call and what its entry stores.
 pub(crate) fn get_twice<L: Log>(
     alloc: Global,
     cache: &mut PageCache<L>,
@@ -28,18 +57,8 @@ pub(crate) fn get_twice<L: Log>(
     ensures same { node_kept pid result.1 ≡ result.0 }
     ensures made { IsMade L.Log cache.old (Get pid) (Got result.0) cache.new }
 {
-    match cache.get(pid) {
-        Ok(Some(view)) => match two_of(alloc, view.node()) {
-            Ok((node, copy)) => {
-                let token = view.token();
-                (Ok(Some((token, node))), Ok(Some((token.ts(), copy))))
-            }
-            Err(_) => {
-                let kept = put(Refusal::OutOfMemory, spare);
-                (Err(Error::OutOfMemory), Err(kept))
-            }
-        },
-        Ok(None) => (Ok(None), Ok(None)),
+    match read(alloc, cache, pid) {
+        Ok((found, copy)) => (Ok(found), Ok(copy)),
         Err(refusal) => (Err(Error::from(refusal)), Err(put(refusal, spare))),
     }
 }

@@ -44,6 +44,15 @@ pub struct Batch {
     pub endings: Vec<Ending>,
 }
 
+/// The pages of reads that are one call, and what was found of those that were read. If a read failed, it is of the first page that has nothing here.
+#[derive(Debug, Drop)]
+pub struct Reads {
+    /// The pages' ids, in the order in which they were read.
+    pub pages: Vec<PageId>,
+    /// The stamp and the node of each page that was read, or `None` if the page is absent or free.
+    pub found: Vec<Option<(u64, Box<Node>)>>,
+}
+
 /// A call with its arguments and its answer.
 #[derive(Debug, Drop)]
 pub enum Called {
@@ -69,10 +78,12 @@ pub enum Called {
     MetaPidForName(Box<IVec>, Kept<Option<PageId>>),
     /// The swaps, and whether the batch was sealed.
     Batch(Box<Batch>, Kept<()>),
+    /// The pages with what was found, and whether all were read.
+    GetAll(Box<Reads>, Kept<()>),
 }
 
 /// A call that was entered. It takes at most 48 bytes, and what its pointers lead to: the node of an `allocate`, a `replace` or a `get`, a link or a
-/// node with the 16 bytes of its token, a name, the swap of a root, the swaps of a batch, or a refusal.
+/// node with the 16 bytes of its token, a name, the swap of a root, the swaps of a batch, the pages of reads with their nodes, or a refusal.
 ///
 /// In contracts, the value of an entry is the call and its answer.
 #[derive(Debug, Drop)]

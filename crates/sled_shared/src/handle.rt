@@ -8,7 +8,7 @@ ghost use Rattle.sled_shared.specs.Book.{IsLegal};
 ghost use Rattle.sled_pagecache.specs.declared.pagecache.handles.call.Answer.TheVariants.{Allocated, Got, Linked, Replaced, Freed, FoundRoot, RootSwapped, Generated, Flushed};
 ghost use Rattle.sled_pagecache.specs.declared.pagecache.handles.call.Call.TheVariants.{Allocate, Get, GenerateId, Flush, MetaPidForName, CasRoot};
 ghost use Rattle.sled_pagecache.specs.declared.pagecache.handles.call.Call.TheVariants as call;
-ghost use Rattle.sled_shared.specs.Calls.{Answered, Asked, Batch, Batched, OpenTree, Opened, batched};
+ghost use Rattle.sled_shared.specs.Calls.{Answered, Asked, Batch, Batched, GetAll, GotAll, OpenTree, Opened, batched, got_all};
 ghost use Rattle.sled_shared.specs.Held.{AreOfBook, IsBookOf, ReplaysIn, Tells, calls_of, count_of};
 
 use crate::book::Book;
@@ -118,6 +118,22 @@ impl<L: Log, K: Tally> SharedPageCache<L, K> {
         ensures told { Tells mine.old (Asked (Get pid)) (Answered (Got result)) mine.new }
     {
         self.held.lock(rt).get(pid, mine)
+    }
+
+    /// Reads several pages as one call, in the order given: the lock is taken once, and no call of another share comes between the reads. Each
+    /// answer is that of [`get`](SharedPageCache::get) for the page at its place.
+    ///
+    /// At the first page whose read fails the call ends: that error is returned with the answers before it.
+    #[tactic(auto, using(crate::proofs::Replays::serves_tells))]
+    pub fn get_all<R: Wait>(
+        &self,
+        rt: &R,
+        pages: Vec<PageId>,
+        mine: &mut Share<K>,
+    ) -> Result<Vec<Option<(PageView, Node)>>, (Error, Vec<Option<(PageView, Node)>>)>
+        ensures told { Tells mine.old (GetAll pages.items) (GotAll (got_all result)) mine.new }
+    {
+        self.held.lock(rt).get_all(pages, mine)
     }
 
     /// Applies a link to the node of a page that is still at the token's stamp, and returns the new token. Otherwise it returns the current token and

@@ -9,7 +9,7 @@
 //! - `handle`: the held cache under one lock
 //! - `crew`: threads that draw ids
 //! - `law`: laws of the books of one opening
-//! - `keeping`, `copies`, `batch`: what an entry stores of an answer, copies of arguments and nodes, and making a batch
+//! - `keeping`, `copies`, `batch`, `reads`: what an entry stores of an answer, copies of arguments and nodes, and making a batch or several reads
 #![tactic(auto)]
 
 mod batch;
@@ -23,12 +23,13 @@ pub mod held;
 mod history;
 mod keeping;
 pub mod law;
+mod reads;
 pub mod share;
 
 pub use book::Book;
 pub use calls::{Swap, SwapAnswer};
 pub use crew::{Gate, run_crew};
-pub use entry::{Batch, Called, Ending, Entry, Kept, RootSwap};
+pub use entry::{Batch, Called, Ending, Entry, Kept, Reads, RootSwap};
 pub use handle::SharedPageCache;
 pub use held::Held;
 pub use share::{Blank, Share, Tally};

@@ -9,7 +9,7 @@ ghost use Rattle.sled_pagecache.specs.State.{pid_of};
 ghost use Rattle.sled_pagecache.specs.declared.pagecache.handles.call.Answer.TheVariants.{Allocated, Got, Linked, Replaced, Freed, FoundRoot, RootSwapped, Generated, Flushed};
 ghost use Rattle.sled_pagecache.specs.declared.pagecache.handles.call.Call.TheVariants.{Allocate, Get, GenerateId, Flush, MetaPidForName, CasRoot};
 ghost use Rattle.sled_pagecache.specs.declared.pagecache.handles.call.Call.TheVariants as call;
-ghost use Rattle.sled_shared.specs.Calls.{Answered, Asked, Batch, Batched, OpenTree, Opened, batched};
+ghost use Rattle.sled_shared.specs.Calls.{Answered, Asked, Batch, Batched, GetAll, GotAll, OpenTree, Opened, batched, got_all};
 ghost use Rattle.sled_shared.specs.Held.{Serves};
 
 use super::Held;
@@ -21,6 +21,7 @@ use crate::copies::{
 };
 use crate::entry::Called;
 use crate::keeping::{keep, keep_ending, keep_root};
+use crate::reads::{plan, read_all};
 use crate::share::{Share, Tally};
 use sled_base::{Error, IVec, PageId};
 use sled_log::Log;
@@ -80,6 +81,30 @@ impl<L: Log, K: Tally> Held<L, K> {
         make_room_in!(self)?;
         let (answer, kept) = get_twice(self.alloc, &mut self.cache, pid, &mut self.spare);
         enter_in!(self, mine, Called::Get(pid, kept));
+        answer
+    }
+
+    /// Reads several pages as one call, each as [`get`](Held::get) does, in the order given. Each answer is of the page at its place.
+    ///
+    /// At the first page whose read fails the call ends: that error is returned with the answers before it, and both are entered. If there is no
+    /// memory for the list of answers, the error is `OutOfMemory` before the first read.
+    pub fn get_all(
+        &mut self,
+        pages: Vec<PageId>,
+        mine: &mut Share<K>,
+    ) -> Result<Vec<Option<(PageView, Node)>>, (Error, Vec<Option<(PageView, Node)>>)>
+        ensures { Serves L.Log self.old mine.old (GetAll pages.items) (GotAll (got_all result))
+            self.new mine.new }
+    {
+        let alloc = self.alloc;
+        if let Err(e) = make_room_in!(self) {
+            return Err((e, Vec::new(alloc)));
+        }
+        let Ok(planned) = plan(alloc, pages) else {
+            return Err((Error::OutOfMemory, Vec::new(alloc)));
+        };
+        let (answer, asked, kept) = read_all(alloc, &mut self.cache, planned, &mut self.spare);
+        enter_in!(self, mine, Called::GetAll(asked, kept));
         answer
     }
 

@@ -1,14 +1,5 @@
-use Rattle.std.proofs.Common.{Ok, Some}
-use Rattle.sled_pagecache.specs.Calls.{Steps}
-use Rattle.sled_pagecache.specs.declared.pagecache.handles.call.Answer.TheVariants.{Got}
-use Rattle.sled_pagecache.specs.declared.pagecache.handles.call.Call.TheVariants.{Get}
-use Rattle.sled_shared.proofs.Unread.{unread-made}
+use Rattle.sled_shared.proofs.Reading.{found-kept}
 use Rattle.sled_shared.proofs.copies.get_twice.Goals as goal
 
-pub returns-in-Err-two_of-clause-made : goal.returns-in-Err-two_of-clause-made
-returns-in-Err-two_of-clause-made g c =
-    let got = c.get.follows.holds-at-none in
-    let last = c.get.follows.lender-at-none in
-    let view = c.in-Ok-Some.view in
-    let step : Steps g.L.Log c.args.cache.now (Get c.args.pid) (Got (Ok (Some (view.token, view.node.now)))) last = rw (c.in-Ok-Some.is, c.in-Ok-Some.field-0-is) at got.step in
-    unread-made g.L.Log c.args.cache.now last c.args.pid (view.token, view.node.now) step (rw (c.in-Ok-Some.is, c.in-Ok-Some.field-0-is) at got.keeps)
+pub returns-in-Ok-clause-same : goal.returns-in-Ok-clause-same
+returns-in-Ok-clause-same g c = found-kept c.args.pid c.in-Ok.copy c.in-Ok.found c.in-Ok.ensures.same
