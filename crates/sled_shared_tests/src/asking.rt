@@ -1,6 +1,7 @@
 //! Calls of a shared cache, each with what was asked and what it answered as a text. A swap that hands its change back is written with what
 //! came back in place of what was asked, so a text stands in the book only if that is the same.
 
+use crate::reading::get_all;
 use sled_pagecache::{Error, IVec, Link, MemLog, Node, PageId, PageView};
 use sled_shared::{Ending, Share, SharedPageCache, Swap, SwapAnswer, Tally};
 use std::alloc::{AllocError, Global};
@@ -21,6 +22,7 @@ pub fn ask<K: Tally, R: Wait>(
         let stamp = u64::from(round) + 1;
         all &= allocate(rt, alloc, shared, share, texts);
         all &= get(rt, alloc, shared, share, 2, texts);
+        all &= get_all(rt, alloc, shared, share, &[3, 2, 9, 2], texts);
         all &= link(
             rt,
             alloc,
@@ -70,6 +72,8 @@ pub fn ask_in_a_row<K: Tally, R: Wait>(
     let mut all = allocate(rt, alloc, shared, share, texts);
     all &= link(rt, alloc, shared, share, PageView::new(2, 1), 7, texts);
     all &= get(rt, alloc, shared, share, 2, texts);
+    all &= get_all(rt, alloc, shared, share, &[9, 2, 2], texts);
+    all &= get_all(rt, alloc, shared, share, &[9, 0, 2], texts);
     all &= replace(rt, alloc, shared, share, PageView::new(2, 2), texts);
     let (page, absent) = (PageView::new(2, 3), PageView::new(9, 1));
     all &= batch(rt, alloc, shared, share, page, absent, texts);

@@ -42,6 +42,9 @@ fn text_of(alloc: Global, called: &Called) -> Result<String, AllocError> {
         }
         Called::MetaPidForName(name, kept) => format!(in alloc; "root {name:?}: {kept:?}"),
         Called::Batch(asked, kept) => batch_text(alloc, asked, kept),
+        Called::GetAll(asked, kept) => {
+            format!(in alloc; "get {:?}: {:?} {kept:?}", asked.pages, asked.found)
+        }
     }
 }
 

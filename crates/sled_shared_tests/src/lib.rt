@@ -6,6 +6,7 @@
 //! - `corners`: shares that run out, a book without room, and batches of no swaps and of many
 //! - `faults`: a device that fails, and a share that is missing
 //! - `poor`: a log without room, and a damaged page
+//! - `reading`: reads of several pages as one call
 //! - `replay`: entries that are made once more
 //! - `refused`: one list of calls, with each request for memory refused in turn
 //! - `rows`: books that are filled, taken and closed, and a batch that is cancelled
@@ -27,6 +28,8 @@ mod entered;
 mod faults;
 #[cfg(test)]
 mod poor;
+#[cfg(test)]
+mod reading;
 #[cfg(test)]
 mod readme;
 #[cfg(test)]

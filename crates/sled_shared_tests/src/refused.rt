@@ -5,7 +5,7 @@ ghost use Rattle.std.specs.Prelude.{◌≡◌, ◌<◌};
 
 mod there;
 
-use self::Call::{Adds, Draws, Finds, Flushes, Gets, Links, Opens, Swaps, Together};
+use self::Call::{Adds, Draws, Finds, Flushes, Gets, Links, Opens, Reads, Swaps, Together};
 use self::there::{behind, is_plain, left_by, opens_again};
 use crate::asking::swaps_of;
 use crate::crews::{new_cache, shared};
@@ -32,13 +32,17 @@ enum Call {
     Swaps,
     Draws,
     Gets(PageId),
+    // pages 2 and 3, one behind them, and page 2 again
+    Reads,
     Finds,
     Flushes,
 }
 
 const NAME: &[u8] = b"t";
 
-/// A call; what it answers: a page, a stamp, an id, or how many swaps are made; and the stamps that each of its changes leaves.
+const PAGES: &[PageId] = &[2, 3, 7, 2];
+
+/// A call; what it answers: a page, a stamp, some stamps added up, an id, or how many swaps are made; and the stamps that each of its changes leaves.
 type Row = (Call, u64, &'static [(usize, u64)]);
 
 const ROWS: &[Row] = &[
@@ -56,6 +60,7 @@ const ROWS: &[Row] = &[
     (Links(10, b"j"), 11, &[(2, 11)]),
     (Links(11, b"k"), 12, &[(2, 12)]),
     (Gets(2), 12, &[]),
+    (Reads, 25, &[]),
     (Together, 2, &[(2, 13), (3, 0)]),
     (Opens, 4, &[(3, 3), (4, 1), (0, 2)]),
     (Swaps, 0, &[(0, 3)]),
@@ -132,6 +137,27 @@ fn together<K: Tally, R: Wait>(
     }
 }
 
+fn reads<K: Tally, R: Wait>(
+    rt: &R,
+    alloc: Global,
+    shared: &SharedPageCache<MemLog, K>,
+    share: &mut Share<K>,
+) -> Told {
+    let Ok(pages) = Vec::from_slice(alloc, PAGES) else {
+        return Err(0);
+    };
+    match shared.get_all(rt, pages, share) {
+        Ok(found) => {
+            let mut stamps = 0u64;
+            for (token, _) in found.into_iter().flatten() {
+                stamps = stamps.saturating_add(token.ts());
+            }
+            Ok(stamps)
+        }
+        Err((e, _)) => told(Err(e)),
+    }
+}
+
 fn answer<K: Tally, R: Wait>(
     rt: &R,
     alloc: Global,
@@ -162,6 +188,7 @@ fn answer<K: Tally, R: Wait>(
                 .get(rt, pid, share)
                 .map(|got| got.map_or(OTHER, |page| page.0.ts())),
         ),
+        Reads => reads(rt, alloc, shared, share),
         Finds => told(shared.meta_pid_for_name(rt, NAME, share)),
         Flushes => told(shared.flush(rt, share).map(|_| 0)),
     }
@@ -189,10 +216,18 @@ fn entered(called: &Called) -> Told {
                 Err(_) => Ok(OTHER),
             }
         }
+        Called::GetAll(asked, Ok(())) => {
+            let mut stamps = 0u64;
+            for (stamp, _) in asked.found.iter().flatten() {
+                stamps = stamps.saturating_add(*stamp);
+            }
+            Ok(stamps)
+        }
         Called::Allocate(_, Err(refusal))
         | Called::GenerateId(Err(refusal))
         | Called::OpenTree(_, Err(refusal))
         | Called::Get(_, Err(refusal))
+        | Called::GetAll(_, Err(refusal))
         | Called::MetaPidForName(_, Err(refusal))
         | Called::Link(_, Err(refusal))
         | Called::CasRoot(_, Err(refusal))

@@ -78,6 +78,9 @@ fn ask_one<K: Tally, R: Wait>(
         Called::Batch(asked, _) => {
             drop(shared.batch(rt, copies_of(alloc, &asked.swaps)?, share));
         }
+        Called::GetAll(asked, _) => {
+            drop(shared.get_all(rt, Vec::from_slice(alloc, &asked.pages)?, share));
+        }
     }
     Ok(())
 }

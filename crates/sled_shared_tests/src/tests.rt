@@ -23,7 +23,7 @@ fn crew_needs_two_threads(rt: HostRuntime) -> Result<(), Fail> {
 #[test]
 fn answers_are_in_the_books(rt: HostRuntime) -> Result<(), Fail> {
     let asked = asked_by_four::<Brand, _>(rt, rt.alloc(), Blank::new(5), 5)?;
-    assert_eq!(rt; asked.total, 264);
+    assert_eq!(rt; asked.total, 288);
     let mut entered = texts_of(rt.alloc(), asked.first.entries())?;
     add_entries(rt.alloc(), &mut entered, asked.last.entries())?;
     entered.sort()?;
@@ -39,7 +39,7 @@ fn books_of_four_threads_are_made_again_by_one(rt: HostRuntime) -> Result<(), Fa
     let mut entered = texts_of(rt.alloc(), asked.first.entries())?;
     add_entries(rt.alloc(), &mut entered, asked.last.entries())?;
     let again = replayed::<Brand, _>(&rt, rt.alloc(), &asked.first, &asked.last, Blank::new(2), 2)?;
-    assert_eq!(rt; entered.len(), 264);
+    assert_eq!(rt; entered.len(), 288);
     assert_eq!(rt; entered, again);
     Ok(())
 }
@@ -63,6 +63,8 @@ const ENDS: &[&str] = &[
     ": Ok((2, PageView { pid: 2, stamp: 1 }))",
     ": Ok(Made)",
     ", 7, 7])] }) })))",
+    ", 7, 7])] }) }))] Ok(())",
+    "get [9, 0, 2]: [None] Err(Unsupported(ReservedId))",
     ": Ok(Made)",
     ": [Made, Stale(4), Gone] Ok(())",
     ": Ok(Made)",
@@ -150,7 +152,7 @@ fn a_cache_without_shares_is_closed_with_none(rt: HostRuntime) {
 #[test]
 fn a_book_of_no_entries_lets_no_call_in(rt: HostRuntime) {
     let told = without_room::<Brand, _>(&rt, rt.alloc(), Blank::new(2), 2);
-    let full = ["Err(Unsupported(BookFull))"; 13];
+    let full = ["Err(Unsupported(BookFull))"; 15];
     assert!(rt;
         told.is_some_and(|(texts, count, entries)| {
             end_so(&texts, &full) && count == 0 && entries == 0

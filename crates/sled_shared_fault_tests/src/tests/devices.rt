@@ -3,7 +3,7 @@
 
 ghost use Rattle.std.specs.Prelude.{◌≡◌, ◌<◌, false, IfOk, IfSome};
 
-mod asked;
+pub mod asked;
 
 use self::asked::{UNREAD, UNWRITTEN, answer_of, shared_answer_of};
 use sled_pagecache::{Config, Disk, DiskLog, Error, MemDisk, PageCache, PageId};
@@ -109,7 +109,7 @@ fn first_disk(alloc: Global, segment_size: u64) -> Option<MemDisk> {
     disk_of(cache)
 }
 
-fn opened(alloc: Global, disk: MemDisk, segment_size: u64) -> Result<PageCache<Disked>, Error>
+pub fn opened(alloc: Global, disk: MemDisk, segment_size: u64) -> Result<PageCache<Disked>, Error>
     ensures { IfOk result (λ cache. cache.batch ≡ false) }
 {
     let log = match DiskLog::open(alloc, disk, segment_size, 0) {

@@ -5,7 +5,7 @@ ghost use Rattle.std.specs.Prelude.{◌≡◌};
 use super::Call::{Adds, Draws, Finds, Frees, Gets, Links, Opens, Replaces, Swaps, Together};
 use super::{Call, Disked};
 use sled_pagecache::sled_base::{Device, Refusal};
-use sled_pagecache::{Error, IVec, Link, Log, Node, PageCache, PageId, PageView, open_tree};
+use sled_pagecache::{Error, IVec, Link, Log, Node, PageCache, PageId, PageView, Why, open_tree};
 use sled_shared::{Share, SharedPageCache, Swap, SwapAnswer, Tally};
 use std::alloc::{AllocError, Global};
 use std::sync::Wait;
@@ -19,19 +19,28 @@ pub const UNREAD: u64 = OTHER - 2;
 /// That a write or a sync failed.
 pub const UNWRITTEN: u64 = OTHER - 3;
 
-// There is no such page or name.
-const GONE: u64 = OTHER - 4;
+/// That a page is one of the cache's own.
+pub const RESERVED: u64 = OTHER - 1;
+
+/// That a page is damaged.
+pub const DAMAGED: u64 = OTHER - 4;
+
+/// That there is no such page or name.
+pub const GONE: u64 = OTHER - 5;
 
 // To this is added the stamp that there is in place of the one that was asked for.
 const STALE: u64 = 1 << 32;
 
 const NAME: &[u8] = b"t";
 
-fn reason_of(error: &Error) -> u64 {
+/// Why there is no answer.
+pub fn reason_of(error: &Error) -> u64 {
     match error {
         Error::Io(Device::Read) => UNREAD,
         Error::Io(Device::Write) => UNWRITTEN,
         Error::CollectionNotFound(_) => GONE,
+        Error::Unsupported(Why::ReservedId) => RESERVED,
+        Error::Corruption(_) => DAMAGED,
         _ => OTHER,
     }
 }
