@@ -25,6 +25,7 @@ pub mod Tasks
 pub mod StagedReads
 pub mod Staged
 pub mod Served
+pub mod LogSteps
 pub mod JournalLaws
 pub mod OverlayLaws
 pub mod StagedReadsLaws

@@ -33,9 +33,14 @@ pub record GoesOn (bytes : List ℕ) (reader : Reader) : Type 0 where
   pub shows : reader.window.bytes.items ≡ take (length reader.window.bytes.items) (drop reader.window.start bytes)
   pub left : left_at bytes reader.at reader.body_end reader.targets (read_by reader) ≡ found_at 8 start (drop 8 bytes)
 
+-- The bytes describe no events: reading them from the first frame on ends at an error.
+abbrev pub AreCorrupt : List ℕ → Type 0
+AreCorrupt bytes = found_at 8 start (drop 8 bytes) ≡ None
+
 -- The record that a reader takes next has this head and a payload of this length. It ends within its body, and the places that marks name
 -- are after it.
 pub record TakesNext (tells : Type 0) (bytes : List ℕ) (reader : Reader) (raw : RawHead) (len : ℕ) : Type 0 where
+  pub on : tells → GoesOn bytes reader
   pub head : tells → HeadOnDisk bytes reader.at reader.body_end (Some (raw, len))
   pub has : HasHead reader.at reader.body_end (Some (raw, len))
   pub ahead : AllByRecursion (λ target. reader.at < target) reader.targets

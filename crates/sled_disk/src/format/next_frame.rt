@@ -14,7 +14,7 @@ ghost use Rattle.sled_disk.specs.RecoveredLog.{IsFull};
 ghost use Rattle.sled_disk.specs.LogContents.{records_behind};
 
 use super::frame::{bytes_of, close, empty, push_record, put, write_frame};
-use super::record::{BEGIN, CANCELLED, END, MARK_ID, MAX_PLACE, RawHead, head_in};
+use super::record::{BEGIN, MARK_ID, MAX_PLACE, RawHead, head_in};
 use crate::disk::Disk;
 use sled_base::PageId;
 use sled_log::LogError;
@@ -182,7 +182,7 @@ impl NextFrame {
     }
 
     // Closes the batch by a record of that kind, for which there is room.
-    fn end(&mut self, kind: u8)
+    pub(crate) fn end(&mut self, kind: u8)
         requires opened { self.old.batch ≡ true }
         requires kind { (kind ≡ 13) ⊎ (kind ≡ 1) }
         ensures gate { self.new.gate ≡ self.old.gate }
@@ -195,34 +195,6 @@ impl NextFrame {
     {
         push_record(&mut self.buffer, kind, MARK_ID, &bytes_of(self.batch_place));
         self.batch = false;
-    }
-
-    // Seals the batch.
-    pub(crate) fn seal(&mut self)
-        requires opened { self.old.batch ≡ true }
-        ensures gate { self.new.gate ≡ self.old.gate }
-        ensures len { length self.new.buffer.items ≡ length self.old.buffer.items + 25 }
-        ensures records { records_behind self.new.buffer.items ≡ records_behind
-            self.old.buffer.items ++ closing_record 13 self.old.batch_place ∷ [] }
-        ensures batch { self.new.batch ≡ false }
-        ensures small { self.old.batch_place < 2 ^ 64 }
-        ensures spilled { self.new.spilled ≡ self.old.spilled }
-    {
-        self.end(END);
-    }
-
-    // Cancels the batch.
-    pub(crate) fn cancel(&mut self)
-        requires opened { self.old.batch ≡ true }
-        ensures gate { self.new.gate ≡ self.old.gate }
-        ensures len { length self.new.buffer.items ≡ length self.old.buffer.items + 25 }
-        ensures records { records_behind self.new.buffer.items ≡ records_behind
-            self.old.buffer.items ++ closing_record 1 self.old.batch_place ∷ [] }
-        ensures batch { self.new.batch ≡ false }
-        ensures small { self.old.batch_place < 2 ^ 64 }
-        ensures spilled { self.new.spilled ≡ self.old.spilled }
-    {
-        self.end(CANCELLED);
     }
 
     // The payload of a record that begins so many bytes from the front of the buffer.

@@ -25,6 +25,7 @@ ghost use Rattle.sled_disk.specs.PendingFrame.{state_of, place_of, said_of, size
 use super::DiskLog;
 use super::finding::find;
 use crate::disk::{Disk, count};
+use crate::format::record::{CANCELLED, END};
 use crate::recovery::pages::pages_of;
 use sled_base::{BlobPointer, DiskPtr, LogOffset, Lsn, MessageKind, PageId};
 use sled_log::{Log, LogError, PageState, Payload};
@@ -261,7 +262,7 @@ impl<D: Disk> Log for DiskLog<D> {
             ≡ moves_in (D.seen self.old.disk) self.old.next self.old.names }
         ensures names { self.new.names ≡ self.old.names }
     {
-        self.next.seal();
+        self.close_batch(END);
         Ok(())
     }
 
@@ -280,7 +281,7 @@ impl<D: Disk> Log for DiskLog<D> {
             ≡ moves_in (D.seen self.old.disk) self.old.next self.old.names }
         ensures names { self.new.names ≡ self.old.names }
     {
-        self.next.cancel();
+        self.close_batch(CANCELLED);
         Ok(())
     }
 

@@ -6,6 +6,7 @@ ghost use Rattle.sled_disk.specs.Cursor.{IsFront};
 ghost use Rattle.sled_disk.specs.Format.{number};
 ghost use Rattle.sled_disk.specs.Names.{moves_in, most_steps, IsStep, IsFound, IsSought};
 ghost use Rattle.sled_disk.specs.DiskReads.{Rests, ReadFaults};
+ghost use Rattle.sled_disk.specs.LogSteps.{LooksAhead};
 ghost use Rattle.sled_disk.specs.PendingFrame.{place_of};
 
 use super::DiskLog;
@@ -65,19 +66,7 @@ impl<D: Disk> DiskLog<D> {
     fn step(&mut self) -> bool
         requires usable { self.old.usable ≡ true }
         requires unread { self.old.names.read ≡ None }
-        ensures rests { Rests D.tells D.seen D.may_leave D.moment D.left_since self.old.disk
-            self.new.disk }
-        ensures failed_reads { (D.counts self.old.disk).failed_reads
-            ≤ (D.counts self.new.disk).failed_reads }
-        ensures write_faults { (D.counts self.old.disk).write_faults
-            ≤ (D.counts self.new.disk).write_faults }
-        ensures usable { self.new.usable ≡ true }
-        ensures reads { self.new.reads ≡ self.old.reads }
-        ensures settings { (self.new.segment_size ≡ self.old.segment_size)
-            × (self.new.clean_every ≡ self.old.clean_every) }
-        ensures pages { self.new.pages ≡ self.old.pages }
-        ensures next { self.new.next ≡ self.old.next }
-        ensures appended { self.new.names.appended ≡ self.old.names.appended }
+        ensures looks { LooksAhead self.old self.new }
         ensures moves { D.tells → moves_in (D.seen self.old.disk) self.new.next self.new.names
             ≡ moves_in (D.seen self.old.disk) self.old.next self.old.names }
         ensures disk_reads { (D.counts self.new.disk).reads ≤ (D.counts self.old.disk).reads + 2 }
@@ -107,19 +96,7 @@ impl<D: Disk> DiskLog<D> {
     // Reads the message that is to be named next, where none was read and any is ever due.
     pub(crate) fn read_name(&mut self)
         requires usable { self.old.usable ≡ true }
-        ensures rests { Rests D.tells D.seen D.may_leave D.moment D.left_since self.old.disk
-            self.new.disk }
-        ensures failed_reads { (D.counts self.old.disk).failed_reads
-            ≤ (D.counts self.new.disk).failed_reads }
-        ensures write_faults { (D.counts self.old.disk).write_faults
-            ≤ (D.counts self.new.disk).write_faults }
-        ensures usable { self.new.usable ≡ true }
-        ensures reads { self.new.reads ≡ self.old.reads }
-        ensures settings { (self.new.segment_size ≡ self.old.segment_size)
-            × (self.new.clean_every ≡ self.old.clean_every) }
-        ensures pages { self.new.pages ≡ self.old.pages }
-        ensures next { self.new.next ≡ self.old.next }
-        ensures appended { self.new.names.appended ≡ self.old.names.appended }
+        ensures looks { LooksAhead self.old self.new }
         ensures moves { D.tells → moves_in (D.seen self.old.disk) self.new.next self.new.names
             ≡ moves_in (D.seen self.old.disk) self.old.next self.old.names }
         ensures disk_reads { (D.counts self.new.disk).reads

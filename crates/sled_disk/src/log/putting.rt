@@ -1,21 +1,13 @@
-// A message more.
+// A message more, or the record that closes a batch.
 
-ghost use Rattle.std.specs.Prelude.{◌≡◌, ◌≢◌, ◌≤◌, ◌<◌, ◌+◌, ◌^◌, ◌↔◌, pos, [], ◌∷◌, true, length, IfOk, IfErr, OnOk, IsErrOf};
-ghost use Rattle.std.specs.List.{AllByRecursion};
-ghost use Rattle.sled_log.specs.Calls.{can_append, Appends};
-ghost use Rattle.sled_log.specs.Limits.{head_size, size_limit};
+ghost use Rattle.std.specs.Prelude.{◌≡◌, ◌<◌, ◌+◌, ◌^◌, ◌⊎◌, pos, true};
+ghost use Rattle.sled_log.specs.Calls.{can_append};
+ghost use Rattle.sled_log.specs.Events.{is_open};
 ghost use Rattle.sled_log.specs.LogState.{now};
-ghost use Rattle.sled_log.specs.Messages.{effect_of_entry, message};
-ghost use Rattle.sled_log.specs.Moves.{moves_with};
-ghost use Rattle.sled_log.specs.Pages.{IsSized};
-ghost use Rattle.sled_log.specs.declared.log.LogError.TheVariants.{Full, WriteFault, Corruption};
+ghost use Rattle.sled_log.specs.Messages.{effect_of_entry};
 ghost use Rattle.sled_base.specs.declared.types.DiskPtr.TheVariants.{Inline};
-ghost use Rattle.sled_disk.specs.Crash.{BytesLeft};
-ghost use Rattle.sled_disk.specs.Reading.{chains_of, effect_of_head};
-ghost use Rattle.sled_disk.specs.LogContents.{events_in};
-ghost use Rattle.sled_disk.specs.RecoveredLog.{IsEither};
+ghost use Rattle.sled_disk.specs.LogSteps.{AddsMessage, AnswersMessage, ClosesBatch, OnlyNext};
 ghost use Rattle.sled_disk.specs.Names.{moves_in};
-ghost use Rattle.sled_disk.specs.PendingFrame.{place_of, said_of, events_with, IsDue, IsFullFor};
 
 use super::DiskLog;
 use crate::disk::Disk;
@@ -41,39 +33,8 @@ impl<D: Disk> DiskLog<D> {
         requires usable { self.old.usable ≡ true }
         requires can { D.tells → can_append effect_of_entry
             (now effect_of_entry (⟦<Self as Log>⟧.state self.old)) pid kind ≡ true }
-        ensures called { Appends D.tells ⟦<Self as Log>⟧.state ⟦<Self as Log>⟧.moment
-            ⟦<Self as Log>⟧.left_since ⟦<Self as Log>⟧.counts self.old self.new
-            pid (message kind payload.now) result }
-        ensures any_moment { D.tells
-            → BytesLeft D.moment D.left_since self.old.disk self.new.disk (IsEither
-            (events_in (D.seen self.old.disk))
-            (events_with (D.seen self.old.disk) self.old.next kind pid payload.now)) }
-        ensures size { IfOk result (λ said. (said.2 ≡ head_size + length payload.now)
-            × (said.2 < size_limit)) }
-        ensures sized { D.tells → OnOk result
-            (AllByRecursion IsSized (now effect_of_entry (⟦<Self as Log>⟧.state self.new))) }
-        ensures full { IsErrOf result Full ↔ IsFullFor self.old.next (length payload.now) }
-        ensures sound { can_append effect_of_head (chains_of self.old.pages.items) pid kind ≡ true
-            → IsErrOf result Corruption → ⊥ }
-        ensures written { OnOk result (IsDue self.old.segment_size self.old.next
-            (length payload.now) ↔ (⟦<Self as Log>⟧.to_write self.new ≡ 0)) }
-        ensures settings { (self.new.segment_size ≡ self.old.segment_size)
-            × (self.new.clean_every ≡ self.old.clean_every) }
-        ensures said { IfOk result (λ said. said ≡ said_of self.old.next payload.now) }
-        ensures named { D.tells → OnOk result (0 < self.old.clean_every
-            → moves_in (D.seen self.new.disk) self.new.next self.new.names
-            ≡ moves_with (moves_in (D.seen self.old.disk) self.old.next self.old.names)
-            ((pid, place_of self.old.next) ∷ [])) }
-        ensures unnamed { D.tells → IfErr result (λ e. e ≢ WriteFault
-            → moves_in (D.seen self.new.disk) self.new.next self.new.names
-            ≡ moves_in (D.seen self.old.disk) self.old.next self.old.names) }
-        ensures counted { OnOk result (0 < self.old.clean_every
-            → self.new.names.appended ≡ self.old.names.appended + 1) }
-        ensures kept { IfErr result (λ e. e ≢ WriteFault → self.new.names ≡ self.old.names) }
-        ensures places { self.new.names ≡ record self.old.names { appended = self.new.names.appended } }
-        ensures failed_reads { (D.counts self.old.disk).failed_reads
-            ≤ (D.counts self.new.disk).failed_reads }
-        ensures disk_reads { (D.counts self.new.disk).reads ≡ (D.counts self.old.disk).reads }
+        ensures adds { AddsMessage ⟦<Self as Log>⟧ self.old self.new kind pid payload.now result }
+        ensures answers { AnswersMessage self.old self.new kind pid payload.now result }
     {
         let place = self.add(kind, pid, payload)?;
         let said = said_at(place, payload.len());
@@ -82,5 +43,19 @@ impl<D: Disk> DiskLog<D> {
         }
         self.write_next()?;
         Ok(said)
+    }
+
+    // Adds the record of that kind that closes the open batch. It calls no device.
+    pub(crate) fn close_batch(&mut self, kind: u8)
+        requires usable { self.old.usable ≡ true }
+        requires opened { is_open (⟦<Self as Log>⟧.state self.old).pending ≡ true }
+        requires kind { (kind ≡ 13) ⊎ (kind ≡ 1) }
+        ensures called { ClosesBatch ⟦<Self as Log>⟧ self.old self.new kind }
+        ensures only { OnlyNext self.old self.new }
+        ensures unnamed { D.tells
+            → moves_in (D.seen self.new.disk) self.new.next self.new.names
+            ≡ moves_in (D.seen self.old.disk) self.old.next self.old.names }
+    {
+        self.next.end(kind);
     }
 }

@@ -9,7 +9,7 @@ ghost use Rattle.sled_log.specs.declared.log.LogError.TheVariants.{Memory, ReadF
 ghost use Rattle.sled_disk.specs.Disk.{Only, LeavesTheSame};
 ghost use Rattle.sled_disk.specs.Format.{Describes};
 ghost use Rattle.sled_disk.specs.Abandoned.{room_behind};
-ghost use Rattle.sled_disk.specs.ReaderState.{GoesOn, StepsOn, TakesNext, read_by, waiting_by};
+ghost use Rattle.sled_disk.specs.ReaderState.{AreCorrupt, GoesOn, StepsOn, TakesNext, read_by, waiting_by};
 ghost use Rattle.sled_base.specs.Kinds.{kind_of};
 ghost use Rattle.sled_disk.specs.DiskReads.{Rests, ReadFaults};
 ghost use Rattle.sled_disk.specs.RecoveredHeads.{AllEndBy, AreHeads, AreRead};
@@ -105,8 +105,7 @@ impl Reader {
         ensures small { IfOk result (λ opened. opened ≡ false → self.new.at + room_behind self.new.begun < 2 ^ 63) }
         ensures closed { D.tells → IfOk result (λ opened. opened ≡ false → found_at 8 start
             (drop 8 (D.seen disk.old)) ≡ Some (self.new.at, read_by self.new)) }
-        ensures corrupt { D.tells → IsErrOf result Corruption
-            → found_at 8 start (drop 8 (D.seen disk.old)) ≡ None }
+        ensures corrupt { D.tells → IsErrOf result Corruption → AreCorrupt (D.seen disk.old) }
         ensures steps { StepsOn ⟦<D as Disk>⟧ disk.old disk.new self.old self.new result }
     {
         if !self.targets.is_empty() {
@@ -137,8 +136,7 @@ impl Reader {
         requires body { self.old.at < self.old.body_end }
         ensures goes_on { D.tells → GoesOn (D.seen disk.old) self.new }
         ensures further { OnOk result (self.old.at < self.new.at) }
-        ensures corrupt { D.tells → IsErrOf result Corruption
-            → found_at 8 start (drop 8 (D.seen disk.old)) ≡ None }
+        ensures corrupt { D.tells → IsErrOf result Corruption → AreCorrupt (D.seen disk.old) }
         ensures steps { StepsOn ⟦<D as Disk>⟧ disk.old disk.new self.old self.new result }
     {
         let head = head_on(&mut self.window, disk, self.at, self.body_end, self.end)?;
@@ -161,13 +159,11 @@ impl Reader {
         raw: RawHead,
         len: u64,
     ) -> Result<(), LogError>
-        requires goes_on { D.tells → GoesOn (D.seen disk.old) self.old }
         requires closed { self.old.begun ≡ None }
         requires next { TakesNext D.tells (D.seen disk.old) self.old raw len }
         ensures goes_on { D.tells → GoesOn (D.seen disk.old) self.new }
         ensures further { OnOk result (self.old.at < self.new.at) }
-        ensures corrupt { D.tells → IsErrOf result Corruption
-            → found_at 8 start (drop 8 (D.seen disk.old)) ≡ None }
+        ensures corrupt { D.tells → IsErrOf result Corruption → AreCorrupt (D.seen disk.old) }
         ensures steps { StepsOn ⟦<D as Disk>⟧ disk.old disk.new self.old self.new result }
     {
         if begins(raw) {
@@ -198,13 +194,11 @@ impl Reader {
         raw: RawHead,
         len: u64,
     ) -> Result<(), LogError>
-        requires goes_on { D.tells → GoesOn (D.seen disk.old) self.old }
         requires opened { self.old.begun ≡ Some begun }
         requires next { TakesNext D.tells (D.seen disk.old) self.old raw len }
         ensures goes_on { D.tells → GoesOn (D.seen disk.old) self.new }
         ensures further { OnOk result (self.old.at < self.new.at) }
-        ensures corrupt { D.tells → IsErrOf result Corruption
-            → found_at 8 start (drop 8 (D.seen disk.old)) ≡ None }
+        ensures corrupt { D.tells → IsErrOf result Corruption → AreCorrupt (D.seen disk.old) }
         ensures steps { StepsOn ⟦<D as Disk>⟧ disk.old disk.new self.old self.new result }
     {
         if closes(raw) {

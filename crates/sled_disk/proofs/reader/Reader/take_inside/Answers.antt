@@ -22,7 +22,7 @@ next : (g : _) (c : Start g) → g.D.Disk.tells
     → (let self = c.args.self.now in IsNext (g.D.Disk.seen c.args.disk.now) self c.args.raw c.args.len (within (chains_of self.pages.items) c.args.begun self.changes.items))
 next g c told =
     let self = c.args.self.now in
-    record { on = c.requires.goes_on told; head = c.requires.next.head told; has = c.requires.next.has; ahead = c.requires.next.ahead; read = read-opened (chains_of self.pages.items) self.begun c.args.begun self.changes.items c.requires.opened }
+    record { on = c.requires.next.on told; head = c.requires.next.head told; has = c.requires.next.has; ahead = c.requires.next.ahead; read = read-opened (chains_of self.pages.items) self.begun c.args.begun self.changes.items c.requires.opened }
 
 -- where it closes a batch
 closing : (g : _) (c : In_ok-place g) → g.D.Disk.tells → Closing (g.D.Disk.seen c.args.disk.now) c.args.raw c.args.self.now.at c.args.len c.in_ok-place.place
@@ -111,6 +111,6 @@ returns-clause-goes_on g c = λ told.
     let at = goal.at.returns-clause-goes_on g c in
     let self = c.args.self.now in
     goes-taken (next g at.Start told) (change-waits (sym c.closes.ensures ∙ c.if-closes.false) (changes g at.After-is_change ∙ c.if-not-is_change.false))
-    (record { end = refl; shows = (c.requires.goes_on told).shows; at = refl; body_end = refl; targets = refl })
+    (record { end = refl; shows = (c.requires.next.on told).shows; at = refl; body_end = refl; targets = refl })
     (read-opened (chains_of self.pages.items) self.begun c.args.begun c.push_back.new.self.items c.requires.opened
     ∙ ap (within (chains_of self.pages.items) c.args.begun) (c.in_ok-push_back.ensures.items ∙ ap (λ (h : Head). self.changes.items ++ (c.args.raw.page, h) ∷ []) c.head-head.ensures))

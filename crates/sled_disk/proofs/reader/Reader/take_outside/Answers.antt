@@ -16,7 +16,7 @@ next : (g : _) (c : Start g) → g.D.Disk.tells → (let self = c.args.self.now 
 next g c told =
     let self = c.args.self.now in
     let is = read-closed (chains_of self.pages.items) self.begun self.changes.items c.requires.closed in
-    record { on = c.requires.goes_on told; head = c.requires.next.head told; has = c.requires.next.has; ahead = c.requires.next.ahead; read = is }
+    record { on = c.requires.next.on told; head = c.requires.next.head told; has = c.requires.next.has; ahead = c.requires.next.ahead; read = is }
 
 pub returns-then-not-is_begin-clause-corrupt : goal.returns-then-not-is_begin-clause-corrupt
 returns-then-not-is_begin-clause-corrupt g c = λ told is.
@@ -42,7 +42,7 @@ returns-then-begins-clause-goes_on g c = λ told.
     let none = c.is_begin.ensures.len c.if-not-is_begin.false in
     goes-taken (next g (goal.at.returns-then-begins-clause-goes_on g c).Start told)
     (begin-made (sym c.begins.ensures ∙ c.if-begins.true) (λ payload long. sym (c.is_begin.ensures.is payload long) ∙ c.if-not-is_begin.false))
-    (record { end = refl; shows = (c.requires.goes_on told).shows; at = omega (arith, none); body_end = refl; targets = refl })
+    (record { end = refl; shows = (c.requires.next.on told).shows; at = omega (arith, none); body_end = refl; targets = refl })
     (ap (within (chains_of self.pages.items) self.at) (self.none c.requires.closed))
 
 pub returns-in_err-name-clause-corrupt : goal.returns-in_err-name-clause-corrupt
@@ -109,4 +109,4 @@ returns-clause-goes_on g c = λ told.
     goes-taken (next g at.Start told)
     (plain-made (Some after) (sym c.begins.ensures ∙ c.if-begins.false)
     (λ payload long. sym (c.is_mark.ensures.is payload long) ∙ c.if-is_mark.false) (heads g at.After-take_head ∙ c.in_ok-take_head.ensures.made))
-    (record { end = refl; shows = (c.requires.goes_on told).shows; at = refl; body_end = refl; targets = refl }) (read-closed after self.begun self.changes.items c.requires.closed)
+    (record { end = refl; shows = (c.requires.next.on told).shows; at = refl; body_end = refl; targets = refl }) (read-closed after self.begun self.changes.items c.requires.closed)

@@ -1,4 +1,4 @@
-use Rattle.std.proofs.Common.{◌≡◌, List, ℕ, refl}
+use Rattle.std.proofs.Common.{rules, ◌≡◌, List, ℕ, refl}
 use Rattle.sled_disk.specs.declared.reader.Reader.{Reader}
 use Rattle.sled_disk.specs.ReaderState.{GoesOn, read_by}
 use Rattle.sled_disk.proofs.Readers.ReaderSteps.{Behind, goes-unread, goes-met, goes-missed}
@@ -24,10 +24,18 @@ returns-then-not-reach-clause-corrupt g c = λ told is.
     goes-missed (g.D.Disk.seen c.args.disk.now) c.args.self.now (c.requires.goes_on told) c.in_ok-head.head c.in-Some.raw c.in-Some.len c.in-Some.is (c.in_ok-head.ensures.head told) c.in_ok-head.ensures.has c.reach.new.self c.reach.ensures.reached
     (c.reach.ensures.missed c.if-not-reach.true)
 
-pub take_outside-requires-clause-goes_on : goal.take_outside-requires-clause-goes_on
-take_outside-requires-clause-goes_on g c = λ told.
-    met g (goal.at.take_outside-requires-clause-goes_on g c).After-reach told (c.in_ok-head.ensures.rests.same told) (record { end = refl; shows = c.in_ok-head.ensures.shows told; at = refl; body_end = refl; targets = refl }) refl
+pub take_outside-requires-clause-next : goal.take_outside-requires-clause-next
+take_outside-requires-clause-next g c = record {
+  on = λ told. met g (goal.at.take_outside-requires-clause-next g c).After-reach told (c.in_ok-head.ensures.rests.same told) (record { end = refl; shows = c.in_ok-head.ensures.shows told; at = refl; body_end = refl; targets = refl }) refl;
+  head = search rules;
+  has = search rules;
+  ahead = search rules;
+}
 
-pub take_inside-requires-clause-goes_on : goal.take_inside-requires-clause-goes_on
-take_inside-requires-clause-goes_on g c = λ told.
-    met g (goal.at.take_inside-requires-clause-goes_on g c).After-reach told (c.in_ok-head.ensures.rests.same told) (record { end = refl; shows = c.in_ok-head.ensures.shows told; at = refl; body_end = refl; targets = refl }) refl
+pub take_inside-requires-clause-next : goal.take_inside-requires-clause-next
+take_inside-requires-clause-next g c = record {
+  on = λ told. met g (goal.at.take_inside-requires-clause-next g c).After-reach told (c.in_ok-head.ensures.rests.same told) (record { end = refl; shows = c.in_ok-head.ensures.shows told; at = refl; body_end = refl; targets = refl }) refl;
+  head = search rules;
+  has = search rules;
+  ahead = search rules;
+}

@@ -5,13 +5,12 @@ use Rattle.sled_disk.specs.Format.{begin_record}
 use Rattle.sled_disk.specs.Reading.{chains_of}
 use Rattle.sled_disk.specs.LogContents.{records_behind}
 use Rattle.sled_disk.proofs.Frames.RecordAppend.{pin-stands}
-use Rattle.sled_disk.specs.PendingFrame.{place_of, batch_of}
-use Rattle.sled_disk.proofs.Chains.LogHeads.{all-later}
+use Rattle.sled_disk.specs.PendingFrame.{batch_of}
 use Rattle.sled_disk.proofs.LogCalls.CallOutcomes.{batch-now, called-refused, called-waits, rests-same}
 use Rattle.sled_disk.proofs.Frames.PendingBuffer.{place-is}
 use Rattle.sled_disk.proofs.Frames.WrittenFrame.{open-batch, closed-batch, flag-of}
 use Rattle.sled_disk.proofs.Moves.MovesAfterCalls.{moves-marked}
-use Rattle.sled_disk.proofs.LogCalls.OneMore.{IsMore, more-waits, more-stands, more-stood, more-looked}
+use Rattle.sled_disk.proofs.LogCalls.OneMore.{IsMore, StandsWith, marked, more-waits, more-stands}
 use Rattle.sled_disk.proofs.log.calls.DiskLogLog.pin.Goals.{In_ok-make_room, After-pin}
 use Rattle.sled_disk.proofs.log.calls.DiskLogLog.pin.Goals as goal
 
@@ -62,16 +61,17 @@ returns-clause-called g c =
     log _ _ _ tt room.rests room.counts room.usable room.reads
     (λ told. more-waits more (g.D.Disk.seen log.disk) _ (room.rests.same told)) (sym c.pin.new.self.batch_is ∙ e.batch) c.requires.usable
 
+stands : (g : _) (c : After-pin g) → StandsWith c.make_room.new.self c.pin.new.self
+stands g c = marked c.make_room.new.self c.pin.new.self begin_record (more g c) refl (omega (arith, c.pin.ensures.gate, c.pin.ensures.len))
+
 pub invariant_of-self-clause-ends : goal.invariant_of-self-clause-ends
-invariant_of-self-clause-ends g c = λ usable.
-    let log = c.make_room.new.self in
-    all-later (place_of log.next) (place_of c.pin.new.self) (chains_of log.pages.items) (omega (arith, c.pin.ensures.gate, c.pin.ensures.len)) (log.ends usable)
+invariant_of-self-clause-ends g c = (stands g c).ends
 
 pub invariant_of-self-clause-stood : goal.invariant_of-self-clause-stood
-invariant_of-self-clause-stood g c = λ told usable. let mid = c.make_room.new.self in more-stood (more g c) (g.D.Disk.seen mid.disk) mid.names.gate mid.names.at (mid.stood told usable)
+invariant_of-self-clause-stood g c = (stands g c).stood
 
 pub invariant_of-self-clause-looked : goal.invariant_of-self-clause-looked
-invariant_of-self-clause-looked g c = λ told usable. let mid = c.make_room.new.self in more-looked (more g c) (g.D.Disk.seen mid.disk) mid.names refl (mid.stood told usable) (mid.looked told usable)
+invariant_of-self-clause-looked g c = (stands g c).looked
 
 pub returns-clause-unnamed : goal.returns-clause-unnamed
 returns-clause-unnamed g c = λ told.
