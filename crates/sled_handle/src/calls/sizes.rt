@@ -2,7 +2,6 @@
 
 ghost use Rattle.sled_handle.specs.PageSizes.{MeasuresCounter, MeasuresNode, MeasuresRoots, TellsPageCount, TellsPageSize};
 
-use crate::output::put_answer;
 use crate::status::{MEMORY, OK, status_of, status_of_refusal};
 use sled_pagecache::pagecache::{COUNTER_PID, META_PID};
 use sled_pagecache::{Log, PageCache};
